@@ -301,7 +301,7 @@ step-ok i w ws calls h e one two =
     let is : front i (w ∷ ws) ≡ Ok (Some call) = f .1 ∙ ap Ok (m .1) in
     let c = continued-ok call (callsFrom (i + sizeOf call) (drop (sizeOf call) (w ∷ ws))) calls (sym (ap next is) ∙ read) in
     let after : After (sizeOf call) i (w ∷ ws) =
-        ⊎-elim (λ k. subst (λ n. After n i (w ∷ ws)) (sym k) one) (λ k. subst (λ n. After n i (w ∷ ws)) (sym k) two) (one-or-two (cargoOf call)) in
+    ⊎-elim (λ k. subst (λ n. After n i (w ∷ ws)) (sym k) one) (λ k. subst (λ n. After n i (w ∷ ws)) (sym k) two) (one-or-two (cargoOf call)) in
     subst (λ cs. Written cs (w ∷ ws)) (sym (c .2))
     (written-more call (c .0) w ws (drop (sizeOf call) (w ∷ ws)) (m .2) refl (after (c .0) (c .1)))
 

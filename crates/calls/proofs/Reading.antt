@@ -25,7 +25,7 @@ use Rattle.calls.specs.Format.{malformed, mapOk, thenOk, kindOf, callIn, first
 at-four : (a b c d : ℕ) (rest : List ℕ) (i : ℕ) → wordAt (a ∷ b ∷ c ∷ d ∷ rest) (suc i) ≡ wordAt rest i
 at-four a b c d rest i =
     let byte : (k : ℕ) → getD (a ∷ b ∷ c ∷ d ∷ rest) (suc i * 4 + k) 0 ≡ getD rest (i * 4 + k) 0 =
-        λ k. let e : suc i * 4 + k ≡ 4 + (i * 4 + k) = omega arith in rw e (sym (getD-drop 4 (a ∷ b ∷ c ∷ d ∷ rest) (i * 4 + k) 0)) in
+    λ k. let e : suc i * 4 + k ≡ 4 + (i * 4 + k) = omega arith in rw e (sym (getD-drop 4 (a ∷ b ∷ c ∷ d ∷ rest) (i * 4 + k) 0)) in
     let first : getD (a ∷ b ∷ c ∷ d ∷ rest) (suc i * 4) 0 ≡ getD rest (i * 4) 0 = rw (← add-zero (suc i * 4), ← add-zero (i * 4)) (byte 0) in
     rw (first, byte 1, byte 2, byte 3)
 
@@ -142,14 +142,7 @@ onto-more : (calls : List Call) (call : Call) (r : Result (List Call) Fault) →
 onto-more calls call (Ok more) = ap Ok (sym (append-assoc calls (call ∷ []) more))
 onto-more calls call (Err e) = refl
 
-onto-none : (r : Result (List Call) Fault) → r ≡ onto [] r
-onto-none (Ok more) = refl
-onto-none (Err e) = refl
-
 -- The turns of a loop over a reader: m is what the whole list means, i the reader's place, o or e its answer.
-pub turn-first : (bytes : List ℕ) → meaning bytes ≡ onto [] (rest 0 bytes)
-turn-first bytes = onto-none (rest 0 bytes)
-
 module _ (m : Result (List Call) Fault) (bytes ys : List ℕ) (i : ℕ) (calls : List Call) (same : ys ≡ bytes) (inv : m ≡ onto calls (rest i bytes)) where
   turn : (r : Result (Option Call) Fault) → r ≡ nextIn i ys → m ≡ onto calls (continued r (rest (i + stride r) bytes))
   turn r e = inv ∙ ap (onto calls) (rest-step bytes i r (e ∙ ap (nextIn i) same))
@@ -179,6 +172,6 @@ turn-less bytes ys i j o call same e moved is =
     let step : j ≡ i + sizeOf call = moved ∙ ap (λ (p : Option Call). i + stride (Ok p)) is in
     let size : 1 ≤ sizeOf call = size-bounds call .0 in
     elim (decLt i (length bytes / 4)) [
-    | yes h ↦ omega arith
-    | no h ↦ absurd (some-within (lengthIn (length bytes)) (front i (wordsFrom i bytes)) call there (front-none i (wordsFrom i bytes) (sym (word-past bytes i (omega arith)))))
+      | yes h ↦ omega arith
+      | no h ↦ absurd (some-within (lengthIn (length bytes)) (front i (wordsFrom i bytes)) call there (front-none i (wordsFrom i bytes) (sym (word-past bytes i (omega arith)))))
     ]

@@ -65,9 +65,16 @@ impl Call {
         ensures { λ r. ⌜ r ≡ cargoOf self ⌝ }
     {
         match self {
-            Call::Read(word) | Call::LockedRead(word) | Call::MasterRead(word) | Call::Snoop(word) => Cargo::Word(word),
-            Call::Write(store) | Call::Unposted(store) | Call::LockedWrite(store) | Call::MasterWrite(store) => Cargo::Store(store),
-            Call::Advance | Call::Lock | Call::Unlock | Call::Ask | Call::Give | Call::Flush => Cargo::Nothing,
+            Call::Read(word)
+            | Call::LockedRead(word)
+            | Call::MasterRead(word)
+            | Call::Snoop(word) => Cargo::Word(word),
+            Call::Write(store)
+            | Call::Unposted(store)
+            | Call::LockedWrite(store)
+            | Call::MasterWrite(store) => Cargo::Store(store),
+            Call::Advance | Call::Lock | Call::Unlock | Call::Ask | Call::Give | Call::Flush =>
+                Cargo::Nothing,
         }
     }
 

@@ -3,7 +3,7 @@ ghost use mathlib.Core.Path.{_≡_};
 ghost use Prim.Native.Nat.{ℕ, _+_, _/_, _^_, _<_, _≤_};
 ghost use lib.ListN.{length};
 ghost use Rattle.std.specs.Options.{Cases as BySome};
-ghost use Rattle.calls.specs.Words.{wordsFrom};
+ghost use Rattle.calls.specs.Words.{wordOf, wordsFrom};
 ghost use Rattle.calls.specs.Format.{targetIn, valueIn, storeIn, callIn, bareCall, firstOf, nextIn, stride};
 use super::call::Call;
 use super::call::Store;
@@ -27,8 +27,19 @@ fn fit_length(length: usize) -> Result<(), Fault>
     if length % 4 == 0 && length <= MOST_BYTES {
         Ok(())
     } else {
-        Err(Fault { refusal: Refusal::ListLength, place: 0, floor: 0 })
+        Err(Fault {
+            refusal: Refusal::ListLength,
+            place: 0,
+            floor: 0,
+        })
     }
+}
+
+// The word of four bytes, the low byte first.
+fn word_of(a: u8, b: u8, c: u8, d: u8) -> u32
+    ensures { λ r. ⌜ r ≡ wordOf a b c d ⌝ }
+{
+    u32::from_le_bytes([a, b, c, d])
 }
 
 // The list word with that index, where the list has one.
@@ -39,7 +50,7 @@ fn word_at(bytes: &[u8], index: u32) -> Option<u32>
     let index = index as usize;
     if index < bytes.len() / 4 {
         let at = index * 4;
-        Some(u32::from_le_bytes([bytes[at], bytes[at + 1], bytes[at + 2], bytes[at + 3]]))
+        Some(word_of(bytes[at], bytes[at + 1], bytes[at + 2], bytes[at + 3]))
     } else {
         None
     }
@@ -56,21 +67,33 @@ fn bits(word: u32, low: u32, count: u32) -> u32
 fn malformed(index: u32) -> Fault
     ensures { λ r. ⌜ r ≡ Rattle.calls.specs.Format.malformed index ⌝ }
 {
-    Fault { refusal: Refusal::ListWord, place: index, floor: 0 }
+    Fault {
+        refusal: Refusal::ListWord,
+        place: index,
+        floor: 0,
+    }
 }
 
 // The call itself, where its list word has no other bits than the kind.
 fn bare(index: u32, head: u32, call: Call) -> Result<Call, Fault>
     ensures { λ r. ⌜ r ≡ bareCall index head call ⌝ }
 {
-    if bits(head, 0, 28) == 0 { Ok(call) } else { Err(malformed(index)) }
+    if bits(head, 0, 28) == 0 {
+        Ok(call)
+    } else {
+        Err(malformed(index))
+    }
 }
 
 // The word that a call without data names.
 fn target(index: u32, head: u32) -> Result<u32, Fault>
     ensures { λ r. ⌜ r ≡ targetIn index head ⌝ }
 {
-    if bits(head, 23, 5) == 0 { Ok(bits(head, 0, 23)) } else { Err(malformed(index)) }
+    if bits(head, 23, 5) == 0 {
+        Ok(bits(head, 0, 23))
+    } else {
+        Err(malformed(index))
+    }
 }
 
 // The value of the data word that follows a call.
@@ -99,7 +122,11 @@ fn store(index: u32, head: u32, next: Option<u32>) -> Result<Store, Fault>
         return Err(malformed(index));
     }
     let value = value(index, next)?;
-    Ok(Store { word: bits(head, 0, 23), lanes: bits(head, 23, 2) as u8, value })
+    Ok(Store {
+        word: bits(head, 0, 23),
+        lanes: bits(head, 23, 2) as u8,
+        value,
+    })
 }
 
 // The call that a list word begins, where `next` is the list word after it.

@@ -6,7 +6,7 @@ use Rattle.calls.proofs.Reading.{word-there, word-past}
 
 pub returns-then-index-bytes : need.returns-then-index-bytes
 returns-then-index-bytes c =
-    record { value = ap Some (c .from-le-bytes .ensures) ∙ sym (word-there (c .args .bytes .now) (c .args .index) (omega arith)); within = omega arith }
+    record { value = ap Some (c .word-of .ensures) ∙ sym (word-there (c .args .bytes .now) (c .args .index) (omega arith)); within = omega arith }
 
 pub returns-else-index-bytes : need.returns-else-index-bytes
 returns-else-index-bytes c =

@@ -1,7 +1,7 @@
 use mathlib.Core.Path.{_≡_, refl, _∙_, ap, sym}
 use Rattle.std.proofs.shelf.Results.{err-from-errBy}
 use Rattle.calls.proofs.whole.read_list.Needs as need
-use Rattle.calls.proofs.Reading.{turn-first, turn-more, turn-end, turn-stop, turn-less}
+use Rattle.calls.proofs.Reading.{turn-more, turn-end, turn-stop, turn-less}
 use Rattle.calls.proofs.Codec.{list-encodes-its-calls}
 
 pub returns-in-Break-call : need.returns-in-Break-call

@@ -11,7 +11,7 @@ returns-in-Break-call c =
     record {
       same = refl;
       value = rw (p .1, p .2)
-        (sym (next-there (c .args .self .now .bytes .now) _ _ _ _ (c .in-Continue-fit-length .ensures tt) (c .in-Some .ensures tt .value) (c .word-at-next .ensures .value) (c .in-Break-call .ensures tt)));
+          (sym (next-there (c .args .self .now .bytes .now) _ _ _ _ (c .in-Continue-fit-length .ensures tt) (c .in-Some .ensures tt .value) (c .word-at-next .ensures .value) (c .in-Break-call .ensures tt)));
       moved = rw (p .1) (omega arith);
     }
 
