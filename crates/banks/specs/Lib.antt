@@ -1,0 +1,5 @@
+pub mod Sizes
+pub mod Lines
+pub mod Ram
+pub mod Eprom
+pub mod Joint
