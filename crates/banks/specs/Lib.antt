@@ -2,4 +2,3 @@ pub mod Sizes
 pub mod Lines
 pub mod Ram
 pub mod Eprom
-pub mod Joint

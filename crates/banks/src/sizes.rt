@@ -10,8 +10,8 @@ use fault::Refusal;
 /// The most lines of a port, which make 8,388,608 words.
 const MOST_LINES: usize = 1_048_576;
 
-// The words of that many lines.
-pub(crate) fn size_of_lines(lines: usize) -> Result<u32, Fault>
+/// How many words that many lines make, or why they make no port.
+pub fn size_of_lines(lines: usize) -> Result<u32, Fault>
     ensures { λ r. ⌜ r ≡ sizeOfLines lines ⌝ }
 {
     if 1 <= lines && lines <= MOST_LINES {

@@ -6,10 +6,10 @@ use Rattle.std.specs.declared.result.Result.the-variants.{Ok}
 use Rattle.port.specs.Meaning.{writing, writeAnswer}
 use Rattle.port.specs.Memory.{drained}
 use Rattle.port.specs.Steps.{Drains}
-use Rattle.banks.specs.Joint.{jointState}
-use Rattle.banks.proofs.Joints.{low-write, high-write}
-use Rattle.banks.proofs.joint.JoinedPort.write.Needs as need
-use Rattle.banks.proofs.joint.JoinedPort.write.Needs.{then-word-split·in-Continue-write, else-word-split·in-Continue-shifted}
+use Rattle.joined_map.specs.Joint.{jointState}
+use Rattle.joined_map.proofs.Joints.{low-write, high-write}
+use Rattle.joined_map.proofs.JoinedPort.write.Needs as need
+use Rattle.joined_map.proofs.JoinedPort.write.Needs.{then-word-split·in-Continue-write, else-word-split·in-Continue-shifted}
 
 pub returns : need.returns
 returns g c =

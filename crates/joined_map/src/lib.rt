@@ -4,9 +4,9 @@ ghost use Prim.Native.Nat.{_+_, _/_, _^_, _<_};
 ghost use Rattle.std.specs.Results.{Cases};
 ghost use Rattle.port.specs.Memory.{drained};
 ghost use Rattle.port.specs.Steps.{Drains};
 ghost use Rattle.banks.specs.Sizes.{sizeOfLines};
-ghost use Rattle.banks.specs.Joint.{jointState, Still, MapDoes};
-use super::sizes::size_of_lines;
+ghost use Rattle.joined_map.specs.Joint.{jointState, Still, MapDoes};
+use banks::size_of_lines;
 use fault::Fault;
 use port::Port;
 use port::check_range;
@@ -31,7 +31,7 @@ pub fn map_size<L: Port, H: Port>(low: &L, high: &H) -> Result<u32, Fault>
 // What the high side answers, with a fault's place as the map counts it.
 fn shifted<T>(by: u32, result: Result<T, Fault>) -> Result<T, Fault>
     requires { ⌜ Cases result (λ _. Unit {0}) (λ fault. fault .place + by < 2 ^ 32) ⌝ }
-    ensures { λ r. ⌜ r ≡ Rattle.banks.specs.Joint.shifted by result ⌝ }
+    ensures { λ r. ⌜ r ≡ Rattle.joined_map.specs.Joint.shifted by result ⌝ }
 {
     match result {
         Ok(value) => Ok(value),

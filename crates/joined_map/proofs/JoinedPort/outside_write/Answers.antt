@@ -4,9 +4,9 @@ use native.Mathlib.Omega.{arith}
 use Rattle.std.proofs.shelf.Ways.{tells}
 use Rattle.std.specs.declared.result.Result.the-variants.{Ok}
 use Rattle.port.specs.Meaning.{writing, writeAnswer}
-use Rattle.banks.specs.Joint.{jointState}
-use Rattle.banks.proofs.Joints.{low-outside, high-outside}
-use Rattle.banks.proofs.joint.JoinedPort.outside_write.Needs as need
+use Rattle.joined_map.specs.Joint.{jointState}
+use Rattle.joined_map.proofs.Joints.{low-outside, high-outside}
+use Rattle.joined_map.proofs.JoinedPort.outside_write.Needs as need
 
 pub returns-then-word-split : need.returns-then-word-split
 returns-then-word-split g c =

@@ -4,9 +4,9 @@ use native.Mathlib.Omega.{arith}
 use Rattle.std.proofs.shelf.Ways.{tells}
 use Rattle.std.proofs.shelf.Results.{err-from-errBy}
 use Rattle.std.specs.declared.result.Result.the-variants.{Ok, Err}
-use Rattle.banks.specs.Joint.{jointState}
-use Rattle.banks.proofs.Joints.{low-read, high-read}
-use Rattle.banks.proofs.joint.JoinedPort.read.Needs as need
+use Rattle.joined_map.specs.Joint.{jointState}
+use Rattle.joined_map.proofs.Joints.{low-read, high-read}
+use Rattle.joined_map.proofs.JoinedPort.read.Needs as need
 
 pub returns-then-word-split : need.returns-then-word-split
 returns-then-word-split g c =

@@ -17,9 +17,9 @@ use Rattle.port.specs.Memory.{Memory, State, lineOf, stored, applied, seen, out
 use Rattle.port.specs.Meaning.{told, within, laned, Settles, Advances, readAnswer, settledAnswer, writeAnswer, ByAnswer, Kept}
 use Rattle.port.specs.Steps.{Step, reads, writes, outsides, Drains}
 use Rattle.port.proofs.Settling.{settles-none, settles-still, stored-at-once, accepted-at-once, written-drained, drained-still, kept-within}
 use Rattle.banks.specs.Sizes.{wordsOfLines}
-use Rattle.banks.specs.declared.joint.JoinedMap.{JoinedMap}
-use Rattle.banks.specs.Joint.{side, jointState, Still, shifted, lowered, Posted, ReadHigh, MapReads, MapWrites, MapOutside}
+use Rattle.joined_map.specs.declared.JoinedMap.{JoinedMap}
+use Rattle.joined_map.specs.Joint.{side, jointState, Still, shifted, lowered, Posted, ReadHigh, MapReads, MapWrites, MapOutside}
 
 pub when-yes : (b : Bool) (P Q : Type 0) → b ≡ true → P → When b P Q
 when-yes b P Q e p = subst (λ x. When x P Q) (sym e) p

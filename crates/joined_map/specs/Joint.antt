@@ -11,8 +11,8 @@ use Rattle.fault.specs.declared.Fault.{Fault}
 use Rattle.port.specs.declared.Write.{Write}
 use Rattle.port.specs.Memory.{Memory, State}
 use Rattle.port.specs.Steps.{Step, reads, writes, advances, outsides, snoops, flushes, Drains}
-use Rattle.banks.specs.declared.joint.JoinedMap.{JoinedMap}
+use Rattle.joined_map.specs.declared.JoinedMap.{JoinedMap}
 use Rattle.banks.specs.Sizes.{wordsOfLines}
 
 -- What stands at a place: of the low side below its end, else of the high side, counted from there.
 abbrev pub side : {X : Type 0} → ℕ → (ℕ → X) → (ℕ → X) → ℕ → X

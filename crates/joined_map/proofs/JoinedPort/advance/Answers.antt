@@ -1,7 +1,7 @@
 use mathlib.Core.Path.{_≡_}
 use Rattle.port.proofs.Settling.{settles-still}
-use Rattle.banks.proofs.Joints.{joint-advances, still-same}
-use Rattle.banks.proofs.joint.JoinedPort.advance.Needs as need
+use Rattle.joined_map.proofs.Joints.{joint-advances, still-same}
+use Rattle.joined_map.proofs.JoinedPort.advance.Needs as need
 
 pub returns : need.returns
 returns g c =
