@@ -18,7 +18,12 @@ use std::io;
 
 // Zeroed RAM of that many lines, with word 37 unreadable.
 fn make_ram(heap: Global, lines: usize) -> Result<Vec<Line>, AllocError> {
-    let zero = Line { words: [0; 8], cacheable: true, protect: false, readable: [true; 8] };
+    let zero = Line {
+        words: [0; 8],
+        cacheable: true,
+        protect: false,
+        readable: [true; 8],
+    };
     let mut records = vec![in heap; zero; lines]?;
     if let Some(line) = records.get_mut(37 / 8) {
         line.readable[37 % 8] = false;
@@ -61,9 +66,16 @@ fn print_done(rt: &LibcRuntime, what: &str, answer: Result<(), Fault>) -> io::Re
     }
 }
 
-fn print_marks(rt: &LibcRuntime, what: &str, answer: Result<(bool, bool), Fault>) -> io::Result<()> {
+fn print_marks(
+    rt: &LibcRuntime,
+    what: &str,
+    answer: Result<(bool, bool), Fault>,
+) -> io::Result<()> {
     match answer {
-        Ok((cacheable, protect)) => println!(rt, "  {what}: cacheable {cacheable} protected {protect}"),
+        Ok((cacheable, protect)) => println!(
+            rt,
+            "  {what}: cacheable {cacheable} protected {protect}"
+        ),
         Err(fault) => print_fault(rt, what, fault),
     }
 }
@@ -89,7 +101,11 @@ fn try_words<P: Port>(rt: &LibcRuntime, port: &mut P) -> io::Result<()>
     print_done(rt, "write 2 lanes 0", port.write(2, 0, 0))?;
     print_done(rt, "write 2 lanes 4", port.write(2, 4, 0))?;
     print_done(rt, "write 16896 lanes 4", port.write(16_896, 4, 0))?;
-    print_done(rt, "write 16894 lanes 3 of 5678", port.write(16_894, 3, 0x5678))?;
+    print_done(
+        rt,
+        "write 16894 lanes 3 of 5678",
+        port.write(16_894, 3, 0x5678),
+    )?;
     print_word(rt, "read 2", port.read(2))?;
     print_word(rt, "read 16894", port.read(16_894))
 }
@@ -100,8 +116,16 @@ fn try_others<P: Port>(rt: &LibcRuntime, port: &mut P) -> io::Result<()>
 {
     print_word(rt, "settled read 37", port.settled_read(37))?;
     print_word(rt, "settled read 16896", port.settled_read(16_896))?;
-    print_done(rt, "outside write 3 lanes 2 of ABCD", port.outside_write(3, 2, 0xabcd))?;
-    print_done(rt, "outside write 16896 lanes 3", port.outside_write(16_896, 3, 0))?;
+    print_done(
+        rt,
+        "outside write 3 lanes 2 of ABCD",
+        port.outside_write(3, 2, 0xabcd),
+    )?;
+    print_done(
+        rt,
+        "outside write 16896 lanes 3",
+        port.outside_write(16_896, 3, 0),
+    )?;
     print_done(rt, "outside write 3 lanes 4", port.outside_write(3, 4, 0))?;
     print_word(rt, "settled read 3", port.settled_read(3))?;
     print_done(rt, "snoop 16895", port.snoop(16_895))?;
@@ -133,11 +157,19 @@ fn try_ports(rt: &LibcRuntime) -> io::Result<()> {
     try_port(rt, "EPROM bank", &mut EpromBank::new(&image))?;
     let mut lines = make_ram(rt.alloc(), 2_048)?;
     let image = make_eprom(rt.alloc(), 1_024)?;
-    try_port(rt, "joined map", &mut JoinedMap::new(RamBank::new(&mut lines), EpromBank::new(&image)))?;
+    try_port(
+        rt,
+        "joined map",
+        &mut JoinedMap::new(RamBank::new(&mut lines), EpromBank::new(&image)),
+    )?;
     let mut low = make_ram(rt.alloc(), 1_000)?;
     let mut middle = make_ram(rt.alloc(), 1_048)?;
     let inner = JoinedMap::new(RamBank::new(&mut low), RamBank::new(&mut middle));
-    try_port(rt, "map of maps", &mut JoinedMap::new(inner, EpromBank::new(&image)))
+    try_port(
+        rt,
+        "map of maps",
+        &mut JoinedMap::new(inner, EpromBank::new(&image)),
+    )
 }
 
 // A RAM bank of that many lines: its size, and its last word.

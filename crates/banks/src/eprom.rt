@@ -26,7 +26,8 @@ impl<'a> EpromBank<'a> {
     pub fn into_bytes(self) -> &'a [u8]
         ensures image { λ r. ⌜ now r ≡ now (self .entry .bytes) ⌝ }
     {
-        self.bytes
+        let bytes = self.bytes;
+        bytes
     }
 }
 

@@ -28,7 +28,12 @@ const EPROM_BYTES: usize = 1_024;
 
 // Zeroed RAM, all of it unprotected, with the last line uncacheable and word 37 unreadable.
 fn make_ram(heap: Global) -> Result<Vec<Line>, AllocError> {
-    let zero = Line { words: [0; 8], cacheable: true, protect: false, readable: [true; 8] };
+    let zero = Line {
+        words: [0; 8],
+        cacheable: true,
+        protect: false,
+        readable: [true; 8],
+    };
     let mut lines = vec![in heap; zero; RAM_LINES]?;
     if let Some(line) = lines.get_mut(RAM_LINES - 1) {
         line.cacheable = false;
@@ -52,17 +57,30 @@ fn print_fault(rt: &LibcRuntime, number: u64, name: &str, fault: Fault) -> io::R
     let refusal = fault.refusal;
     let place = fault.place;
     let floor = fault.floor;
-    println!(rt, "{number} {name} refused {refusal} at {place} floor {floor}")
+    println!(
+        rt,
+        "{number} {name} refused {refusal} at {place} floor {floor}"
+    )
 }
 
-fn print_word(rt: &LibcRuntime, number: u64, name: &str, answer: Result<u16, Fault>) -> io::Result<()> {
+fn print_word(
+    rt: &LibcRuntime,
+    number: u64,
+    name: &str,
+    answer: Result<u16, Fault>,
+) -> io::Result<()> {
     match answer {
         Ok(value) => println!(rt, "{number} {name} {value:04X}"),
         Err(fault) => print_fault(rt, number, name, fault),
     }
 }
 
-fn print_done(rt: &LibcRuntime, number: u64, name: &str, answer: Result<(), Fault>) -> io::Result<()> {
+fn print_done(
+    rt: &LibcRuntime,
+    number: u64,
+    name: &str,
+    answer: Result<(), Fault>,
+) -> io::Result<()> {
     match answer {
         Ok(()) => println!(rt, "{number} {name} ok"),
         Err(fault) => print_fault(rt, number, name, fault),
@@ -77,7 +95,12 @@ fn run_call<P: Port>(rt: &LibcRuntime, number: u64, port: &mut P, call: Call) ->
     let name = call.name();
     match call {
         Call::Read(word) => print_word(rt, number, name, port.read(word)),
-        Call::Write(store) => print_done(rt, number, name, port.write(store.word, store.lanes, store.value)),
+        Call::Write(store) => print_done(
+            rt,
+            number,
+            name,
+            port.write(store.word, store.lanes, store.value),
+        ),
         Call::Advance => {
             port.advance();
             print_done(rt, number, name, Ok(()))
