@@ -1,1 +1,3 @@
 pub mod Queueing
+pub mod Answering
+pub mod Sending

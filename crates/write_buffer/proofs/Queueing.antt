@@ -65,3 +65,17 @@ joins-stayed q w ws h e =
     let all = q .all in
     let place : q .len < length (q .writes) = omega arith in
     take-more-set (q .writes) (q .len) w place ∙ ap (λ l. l ++ (w ∷ [])) e
+
+-- what stood in line before a write joined, and the write: those that left and those that stay
+pub left-line : (o : Option Write) (w : Write) (ws vs : List Write) → o ≡ leaving ws → vs ≡ joined w ws → left o ++ vs ≡ ws ++ (w ∷ [])
+left-line o w ws vs e h =
+    ap (λ (x : Option Write). left x ++ vs) e ∙ ap (λ (l : List Write). left (leaving ws) ++ l) h ∙ oldest-leaves-first .whole w ws
+
+-- a line whose oldest was taken out
+pub popped-some : (ws rest : List Write) (w : Write) → Some w ≡ oldest ws → rest ≡ younger ws → ws ≡ w ∷ rest
+popped-some [] rest w e y = let z : _≡_ {A = ℕ} 0 1 = cc in absurd (omega arith)
+popped-some (v ∷ ws) rest w e y = cc
+
+pub popped-none : (ws : List Write) → None ≡ oldest ws → ws ≡ []
+popped-none [] e = refl
+popped-none (v ∷ ws) e = let z : _≡_ {A = ℕ} 0 1 = cc in absurd (omega arith)
