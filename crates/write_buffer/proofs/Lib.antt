@@ -1,3 +1,4 @@
 pub mod Queueing
 pub mod Answering
 pub mod Sending
+pub mod Passing

@@ -56,12 +56,16 @@ pub record SendsAndReads {P : Type 0} (does : P → Step → P → Type 0) (w : 
   pub queue : queued (c .queue) ≡ []
   pub below : Chain does (b .below) (sends (queued (b .queue)) ++ (reads w r ∷ [])) (c .below)
 
--- An advance is for the writes below. When none waits there the oldest of the queue goes below, and if it waits there still, the port below advances once.
+-- A write goes below, and if it waits there still, the port below advances once.
+pub data SendsOn {P : Type 0} (state : P → State) (does : P → Step → P → Type 0) (w : Write) (p q : P) : Type 0 where
+  settled : Chain does p (writes w (Ok tt) ∷ []) q → state q .waiting ≡ [] → SendsOn state does w p q
+  waited : (middle : P) → Chain does p (writes w (Ok tt) ∷ []) middle → 0 < length (state middle .waiting) → Chain does middle (advances ∷ []) q → SendsOn state does w p q
+
+-- An advance is for the writes below. When none waits there the oldest of the queue goes, and when there is none, nothing happens.
 pub data AdvancesOne {P : Type 0} (state : P → State) (does : P → Step → P → Type 0) (b c : WriteBuffer P) : Type 0 where
-  passed : 0 < length (state (b .below) .waiting) → PassesOn does advances b c → AdvancesOne state does b c
+  below : 0 < length (state (b .below) .waiting) → PassesOn does advances b c → AdvancesOne state does b c
+  oldest : (w : Write) → state (b .below) .waiting ≡ [] → queued (b .queue) ≡ w ∷ queued (c .queue) → SendsOn state does w (b .below) (c .below) → AdvancesOne state does b c
   idle : state (b .below) .waiting ≡ [] → queued (b .queue) ≡ [] → c ≡ b → AdvancesOne state does b c
-  sent : (w : Write) → state (b .below) .waiting ≡ [] → queued (b .queue) ≡ w ∷ queued (c .queue) → Chain does (b .below) (writes w (Ok tt) ∷ []) (c .below) → state (c .below) .waiting ≡ [] → AdvancesOne state does b c
-  sent-on : (w : Write) (middle : P) → state (b .below) .waiting ≡ [] → queued (b .queue) ≡ w ∷ queued (c .queue) → Chain does (b .below) (writes w (Ok tt) ∷ []) middle → 0 < length (state middle .waiting) → Chain does middle (advances ∷ []) (c .below) → AdvancesOne state does b c
 
 -- A call that the buffer refuses leaves it, its queue and the port below as they were.
 abbrev pub Does : {P : Type 0} → (P → State) → (P → Step → P → Type 0) → WriteBuffer P → Step → WriteBuffer P → Type 0

@@ -1,12 +1,14 @@
 //! The stage itself: a queue over any port, which is a port again.
 ghost use mathlib.Core.Path.{_≡_};
 ghost use mathlib.Core.List.{[], _∷_};
+ghost use Prim.Native.Nat.{_≤_};
+ghost use lib.ListN.{length};
 ghost use Rattle.std.specs.declared.result.Result.the-variants.{Ok};
 ghost use Rattle.port.specs.Memory.{posted};
 ghost use Rattle.port.specs.Meaning.{writeAnswer, Settles};
 ghost use Rattle.port.specs.Steps.{writes, Chain};
 ghost use Rattle.write_buffer.specs.Queues.{queued};
-ghost use Rattle.write_buffer.specs.Buffering.{buffered, sends, Sound, Does, Buffering-is-lawful};
+ghost use Rattle.write_buffer.specs.Buffering.{buffered, sends, Takes, Sound, SendsOn, Does, Buffering-is-lawful};
 use super::queue::Queue;
 use fault::Fault;
 use port::Port;
@@ -29,6 +31,35 @@ fn send<P: Port>(below: &mut P, write: Write)
     ensures did { λ _. ⌜ does (now (below .entry)) (writes write (Ok tt)) (now (below .exit)) ⌝ }
 {
     let _ = below.write(write.word, write.lanes, write.value);
+}
+
+// The same, and if the write still waits there, that port advances once.
+fn send_on<P: Port>(below: &mut P, write: Write)
+    requires sound { ⌜ sound (now below) ⌝ }
+    requires taken { ⌜ writeAnswer (state (now below)) write ≡ Ok tt ⌝ }
+    ensures sound { λ _. ⌜ sound (now (below .exit)) ⌝ }
+    ensures after { λ _. ⌜ Settles (posted (write ∷ []) (state (now (below .entry)))) (state (now (below .exit))) ⌝ }
+    ensures fewer { λ _. ⌜ length (state (now (below .exit)) .waiting) ≤ length (state (now (below .entry)) .waiting) ⌝ }
+    ensures did { λ _. ⌜ SendsOn state does write (now (below .entry)) (now (below .exit)) ⌝ }
+{
+    send(below, write);
+    if below.waiting() > 0 {
+        below.advance();
+    }
+}
+
+// Sends every write of a queue to a port that takes them, the oldest first.
+fn send_all<P: Port>(below: &mut P, queue: &mut Queue)
+    requires sound { ⌜ sound (now below) ⌝ }
+    requires taken { ⌜ Takes (state (now below) .facts) (queued (now queue)) ⌝ }
+    ensures sound { λ _. ⌜ sound (now (below .exit)) ⌝ }
+    ensures queue { λ _. ⌜ queued (now (queue .exit)) ≡ [] ⌝ }
+    ensures after { λ _. ⌜ Settles (posted (queued (now (queue .entry))) (state (now (below .entry)))) (state (now (below .exit))) ⌝ }
+    ensures did { λ _. ⌜ Chain does (now (below .entry)) (sends (queued (now (queue .entry)))) (now (below .exit)) ⌝ }
+{
+    while let Some(oldest) = queue.pop() {
+        send(below, oldest);
+    }
 }
 
 impl<P: Port> WriteBuffer<P> {
@@ -54,19 +85,6 @@ impl<P: Port> WriteBuffer<P> {
         let WriteBuffer { below, queue } = self;
         (below, queue)
     }
-
-    // Sends every queued write below, the oldest first.
-    fn send_all(&mut self)
-        requires { ⌜ Sound (P·Port .state) (P·Port .sound) (now self) ⌝ }
-        ensures sound { λ _. ⌜ P·Port .sound (now (self .exit) .below) ⌝ }
-        ensures queue { λ _. ⌜ queued (now (self .exit) .queue) ≡ [] ⌝ }
-        ensures after { λ _. ⌜ Settles (posted (queued (now (self .entry) .queue)) (P·Port .state (now (self .entry) .below))) (P·Port .state (now (self .exit) .below)) ⌝ }
-        ensures did { λ _. ⌜ Chain (P·Port .does) (now (self .entry) .below) (sends (queued (now (self .entry) .queue))) (now (self .exit) .below) ⌝ }
-    {
-        while let Some(oldest) = self.queue.pop() {
-            send(&mut self.below, oldest);
-        }
-    }
 }
 
 pub impl<P: Port> Port for WriteBuffer<P> as WriteBufferPort {
@@ -90,12 +108,12 @@ pub impl<P: Port> Port for WriteBuffer<P> as WriteBufferPort {
     }
 
     fn waiting(&self) -> u32 {
-        self.below.waiting().saturating_add(self.queue.len() as u32)
+        self.below.waiting().saturating_add(self.queue.waiting())
     }
 
     fn read(&mut self, word: u32) -> Result<u16, Fault> {
         check_range(word, self.words(), self.floor())?;
-        self.send_all();
+        send_all(&mut self.below, &mut self.queue);
         self.below.read(word)
     }
 
@@ -111,10 +129,7 @@ pub impl<P: Port> Port for WriteBuffer<P> as WriteBufferPort {
         if self.below.waiting() > 0 {
             self.below.advance();
         } else if let Some(oldest) = self.queue.pop() {
-            send(&mut self.below, oldest);
-            if self.below.waiting() > 0 {
-                self.below.advance();
-            }
+            send_on(&mut self.below, oldest);
         }
     }
 

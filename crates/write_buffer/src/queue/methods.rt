@@ -23,11 +23,11 @@ impl Queue {
     }
 
     /// How many writes wait, four at most.
-    pub fn len(&self) -> usize
+    pub fn waiting(&self) -> u32
         ensures value { λ r. ⌜ r ≡ length (queued (now (self .entry))) ⌝ }
         ensures most { λ r. ⌜ r ≤ 4 ⌝ }
     {
-        self.len
+        self.len as u32
     }
 
     /// Takes the oldest write out.

@@ -10,10 +10,10 @@ use Rattle.write_buffer.proofs.buffer.WriteBufferPort.read.Needs as need
 pub returns : need.returns
 returns g c =
     let s = g .P·Port .state (c .args .self .now .below) in
-    let t = g .P·Port .state (c .send-all .last .self .below) in
+    let t = g .P·Port .state (c .send-all .last .below) in
     let u = g .P·Port .state (c .read .last .self) in
     let ws = queued (c .args .self .now .queue) in
-    let vs = queued (c .send-all .last .self .queue) in
+    let vs = queued (c .send-all .last .queue) in
     let word = c .args .word in
     let own = within-own word (c .words .result) (c .floor .result) (s .facts .words) (raised s .facts .floor) (c .in-Continue-check-range .ensures tt) (c .words .ensures .value) (c .floor .ensures) in
     let passes = within-any word (s .facts .words) (raised s .facts .floor) (s .facts .floor) own in
