@@ -2,3 +2,4 @@ pub mod Queueing
 pub mod Answering
 pub mod Sending
 pub mod Passing
+pub mod Ordering

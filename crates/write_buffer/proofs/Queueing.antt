@@ -53,6 +53,9 @@ not-none x l e = let z : _≡_ {A = ℕ} 0 1 = cc in omega arith
 count : (q : Queue) → length (queued q) ≡ q .len
 count q = let few = q .few in let all = q .all in simp length-take (omega arith)
 
+pub at-most-four : (q : Queue) → length (queued q) ≤ 4
+at-most-four q = let n = count q in let few = q .few in omega arith
+
 pub at-free : (q : Queue) → q .len < 4 → (leaving (queued q) ≡ None) × (staying (queued q) ≡ queued q)
 at-free q h = let n = count q in (grind (arith, tells), grind (arith, tells))
 

@@ -14,6 +14,7 @@ use Rattle.port.proofs.Settling.{applied-append, settles-none, settles-then, se
 use Rattle.write_buffer.specs.declared.buffer.WriteBuffer.{WriteBuffer}
 use Rattle.write_buffer.specs.declared.queue.Queue.{Queue}
 use Rattle.write_buffer.specs.Queues.{leaving, left}
+use Rattle.write_buffer.proofs.Queueing.{at-most-four}
 use Rattle.write_buffer.specs.Buffering.{raised, buffered, sends, Buffering-is-lawful}
 
 pub settles-facts : (s t : State) → Settles s t → t .facts ≡ s .facts
@@ -45,6 +46,7 @@ send-buffered s t w ws a = settles-raised (posted (w ∷ ws) s) (posted ws t) (s
 
 pub buffering-is-lawful : Buffering-is-lawful
 buffering-is-lawful = record {
+  four = at-most-four;
   sees = λ s ws. applied-append (s .protected) (s .waiting) ws (s .settled);
   unseen = λ s t w ws a. seen-kept _ _ (send-buffered s t w ws a);
 }
@@ -65,10 +67,10 @@ turn-ends x s ws e a = let F : State → Type 0 = λ y. Settles x y in subst F (
 pub none-sent : {P : Type 0} {does : P → Step → P → Type 0} {p : P} (ws : List Write) → ws ≡ [] → Chain does p (sends ws) p
 none-sent {P} {does} {p} ws e = let F : List Write → Type 0 = λ l. Chain does p (sends l) p in subst F (sym e) done
 
--- one call more at the end of a chain
-pub chain-then : {P : Type 0} {does : P → Step → P → Type 0} {p q r : P} {ds : List Step} {d : Step} → Chain does p ds q → does q d r → Chain does p (ds ++ (d ∷ [])) r
-chain-then done h = then h done
-chain-then (then a c) h = then a (chain-then c h)
+-- chains one after another
+pub chain-append : {P : Type 0} {does : P → Step → P → Type 0} {p q r : P} {ds es : List Step} → Chain does p ds q → Chain does q es r → Chain does p (ds ++ es) r
+chain-append done c = c
+chain-append (then h c) d = then h (chain-append c d)
 
 pub sends-left : {P : Type 0} {does : P → Step → P → Type 0} {p q : P} (ws : List Write) (o : Option Write) → o ≡ leaving ws →
     Chain does p (sends (left o)) q → Chain does p (sends (left (leaving ws))) q

@@ -11,6 +11,7 @@ use Rattle.port.specs.Memory.{Facts, State, applied, seen, posted}
 use Rattle.port.specs.Meaning.{within, writable, Settles, ByAnswer}
 use Rattle.port.specs.Steps.{Step, reads, writes, advances, outsides, snoops, flushes, Chain}
 use Rattle.write_buffer.specs.declared.buffer.WriteBuffer.{WriteBuffer}
+use Rattle.write_buffer.specs.declared.queue.Queue.{Queue}
 use Rattle.write_buffer.specs.Queues.{queued, leaving, joined, left}
 
 -- The state as the next floor shows it; floors are counted up to 255.
@@ -78,6 +79,8 @@ Does state does b (snoops w r) c = ByAnswer r (PassesOn does (snoops w r) b c) (
 Does state does b flushes c = PassesOn does flushes b c
 
 pub record Buffering-is-lawful : Type 0 where
+  -- four at most wait in a queue
+  pub four : (q : Queue) → length (queued q) ≤ 4
   -- what is seen above is what is seen below with the queue applied
   pub sees : (s : State) (ws : List Write) → seen (buffered s ws) ≡ applied (s .protected) ws (seen s)
   -- to send the oldest below changes nothing that is seen above

@@ -1,2 +1,3 @@
 pub mod Queues
 pub mod Buffering
+pub mod Runs

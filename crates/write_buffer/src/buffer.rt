@@ -9,6 +9,7 @@ ghost use Rattle.port.specs.Meaning.{writeAnswer, Settles};
 ghost use Rattle.port.specs.Steps.{writes, Chain};
 ghost use Rattle.write_buffer.specs.Queues.{queued};
 ghost use Rattle.write_buffer.specs.Buffering.{buffered, sends, Takes, Sound, SendsOn, Does, Buffering-is-lawful};
+ghost use Rattle.write_buffer.specs.Runs.{Nothing-is-lost};
 use super::queue::Queue;
 use fault::Fault;
 use port::Port;
@@ -70,6 +71,7 @@ impl<P: Port> WriteBuffer<P> {
         ensures below { λ r. ⌜ r .below ≡ below ⌝ }
         ensures queue { λ r. ⌜ queued (r .queue) ≡ [] ⌝ }
         ensures law { λ _. ⌜ Buffering-is-lawful ⌝ }
+        ensures run { λ _. ⌜ Nothing-is-lost (P·Port .state) (P·Port .does) ⌝ }
     {
         WriteBuffer {
             below,

@@ -1,6 +1,7 @@
 use mathlib.Core.Path.{refl, sym}
 use Rattle.write_buffer.proofs.Answering.{takes-line}
 use Rattle.write_buffer.proofs.Sending.{buffering-is-lawful}
+use Rattle.write_buffer.proofs.Ordering.{nothing-is-lost}
 use Rattle.write_buffer.proofs.buffer.WriteBuffer.new.Needs as need
 
 pub returns : need.returns
@@ -10,4 +11,5 @@ returns g c =
       below = refl;
       queue = c .new .ensures;
       law = buffering-is-lawful;
+      run = nothing-is-lost (g .P·Port .state) (g .P·Port .does);
     }

@@ -1,10 +1,11 @@
 use mathlib.Core.Path.{_≡_, sym, _∙_}
 use Rattle.port.specs.Memory.{seen, posted}
+use Rattle.port.specs.Steps.{done, then}
 use Rattle.port.proofs.Settling.{settles-then}
 use Rattle.write_buffer.specs.Queues.{queued}
 use Rattle.write_buffer.specs.Buffering.{raised, buffered}
 use Rattle.write_buffer.proofs.Answering.{within-own, within-any, told-within, reads-through, kept-within, as-ok, takes-line}
-use Rattle.write_buffer.proofs.Sending.{settles-emptied, chain-then}
+use Rattle.write_buffer.proofs.Sending.{settles-emptied, chain-append}
 use Rattle.write_buffer.proofs.buffer.WriteBufferPort.read.Needs as need
 
 pub returns : need.returns
@@ -23,5 +24,5 @@ returns g c =
       value = cell ∙ sym (told-within (raised s .facts) (seen (posted ws s)) word own);
       after = settles-emptied s u ws vs (c .send-all .ensures .queue) (settles-then (posted ws s) t u (c .send-all .ensures .after) (c .read .ensures .after));
       kept = kept-within (c .read .result) (seen (posted ws s)) word _ _ cell;
-      did = as-ok _ _ _ passes record { queue = c .send-all .ensures .queue; below = chain-then (c .send-all .ensures .did) (c .read .ensures .did) };
+      did = as-ok _ _ _ passes record { queue = c .send-all .ensures .queue; below = chain-append (c .send-all .ensures .did) (then (c .read .ensures .did) done) };
     }
