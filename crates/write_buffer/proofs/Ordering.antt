@@ -9,7 +9,6 @@ use Rattle.port.specs.Memory.{State}
 use Rattle.port.specs.Meaning.{ByAnswer}
 use Rattle.port.specs.Steps.{Step, reads, writes, advances, outsides, snoops, flushes, Chain, done, then}
 use Rattle.write_buffer.specs.declared.buffer.WriteBuffer.{WriteBuffer}
-use Rattle.write_buffer.specs.declared.queue.Queue.{Queue}
 use Rattle.write_buffer.specs.Queues.{queued, leaving, left}
 use Rattle.write_buffer.specs.Buffering.{sends, PassesOn, Joins, SendsAndReads, SendsOn, settled, waited, AdvancesOne, below, oldest, idle, Does}
 use Rattle.write_buffer.specs.Runs.{writtenBy, written, heardBy, heard, Below, Nothing-is-lost}
@@ -38,7 +37,7 @@ lines-then xs ys qb qm qc ws vs a b =
     append-assoc xs ys qc ∙ ap (λ l. xs ++ l) b ∙ sym (append-assoc xs qm vs) ∙ ap (λ l. l ++ vs) a ∙ append-assoc qb ws vs
 
 below-then : {P : Type 0} (does : P → Step → P → Type 0) (ws vs : List Write) (hs gs : List Step) (b m c : WriteBuffer P) →
-  Below does ws hs b m → Below does vs gs m c → Below does (ws ++ vs) (hs ++ gs) b c
+    Below does ws hs b m → Below does vs gs m c → Below does (ws ++ vs) (hs ++ gs) b c
 below-then does ws vs hs gs b m c x y = record {
   calls = x .calls ++ y .calls;
   chain = chain-append (x .chain) (y .chain);
@@ -55,7 +54,7 @@ unchanged {P} does b c e = let F : WriteBuffer P → Type 0 = λ x. Below does [
 
 -- a call passed on, with what it hands over
 passed-below : {P : Type 0} (does : P → Step → P → Type 0) (d : Step) (hs : List Step) (b c : WriteBuffer P) → writtenBy d ≡ [] → heardBy d ≡ hs →
-  PassesOn does d b c → Below does [] hs b c
+    PassesOn does d b c → Below does [] hs b c
 passed-below does d hs b c none e a = record {
   calls = d ∷ [];
   chain = a .below;
@@ -64,7 +63,7 @@ passed-below does d hs b c none e a = record {
 }
 
 read-below : {P : Type 0} (does : P → Step → P → Type 0) (d : Step) (b c : WriteBuffer P) → writtenBy d ≡ [] → heardBy d ≡ [] →
-  queued (c .queue) ≡ [] → Chain does (b .below) (sends (queued (b .queue)) ++ (d ∷ [])) (c .below) → Below does [] [] b c
+    queued (c .queue) ≡ [] → Chain does (b .below) (sends (queued (b .queue)) ++ (d ∷ [])) (c .below) → Below does [] [] b c
 read-below does d b c none quiet empty chain =
     let ws = queued (b .queue) in
     record {
@@ -87,7 +86,7 @@ write-below does w b c a =
     }
 
 sent-below : {P : Type 0} (state : P → State) (does : P → Step → P → Type 0) (w : Write) (b c : WriteBuffer P) → queued (b .queue) ≡ w ∷ queued (c .queue) →
-  SendsOn state does w (b .below) (c .below) → Below does [] [] b c
+    SendsOn state does w (b .below) (c .below) → Below does [] [] b c
 sent-below state does w b c line (settled chain none) =
     record { calls = writes w (Ok tt) ∷ []; chain = chain; order = sym line ∙ sym (append-nil (queued (b .queue))); passed = refl }
 sent-below state does w b c line (waited middle sent waits chain) =

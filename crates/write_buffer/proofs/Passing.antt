@@ -1,31 +1,27 @@
 -- What a call that is passed on keeps.
 use mathlib.Core.Path.{_≡_, refl, sym, ap, _∙_}
-use mathlib.Core.List.{List, [], _∷_}
+use mathlib.Core.List.{List}
 use Rattle.std.specs.declared.result.Result.{Result}
 use Rattle.std.specs.declared.result.Result.the-variants.{Ok}
 use Rattle.fault.specs.declared.Fault.{Fault}
 use Rattle.port.specs.declared.Write.{Write}
 use Rattle.port.specs.Memory.{State}
-use Rattle.port.specs.Meaning.{Advances, ByAnswer}
+use Rattle.port.specs.Meaning.{ByAnswer}
 use Rattle.port.specs.Steps.{Step, done, then}
 use Rattle.write_buffer.specs.declared.buffer.WriteBuffer.{WriteBuffer}
 use Rattle.write_buffer.specs.Queues.{queued}
 use Rattle.write_buffer.specs.Buffering.{buffered, Sound, PassesOn}
 use Rattle.write_buffer.proofs.Answering.{as-ok, in-ok, takes-kept}
-use Rattle.write_buffer.proofs.Sending.{settles-facts}
 
-pub sound-passed : {P : Type 0} (state : P → State) (sound : P → Type 0) (b : WriteBuffer P) (q : P) → sound q → state q ≡ state (b .below) →
+pub sound-passed : {P : Type 0} (state : P → State) (sound : P → Type 0) (b : WriteBuffer P) (q : P) → sound q → state q .facts ≡ state (b .below) .facts →
     Sound state sound b → Sound state sound (record { below = q; queue = b .queue })
-sound-passed state sound b q h e a =
-    record { below = h; taken = takes-kept _ _ (queued (b .queue)) (ap (λ (x : State). x .facts) e) (a .taken) }
+sound-passed state sound b q h e a = record { below = h; taken = takes-kept _ _ (queued (b .queue)) e (a .taken) }
+
+pub facts-passed : (s t : State) → t ≡ s → t .facts ≡ s .facts
+facts-passed s t e = ap (λ (u : State). u .facts) e
 
 pub after-passed : (s t : State) (ws : List Write) → t ≡ s → buffered t ws ≡ buffered s ws
-after-passed s t ws e = ap (λ (x : State). buffered x ws) e
-
-pub sound-advanced : {P : Type 0} (state : P → State) (sound : P → Type 0) (b : WriteBuffer P) (q : P) → sound q → Advances (state (b .below)) (state q) →
-    Sound state sound b → Sound state sound (record { below = q; queue = b .queue })
-sound-advanced state sound b q h a k =
-    record { below = h; taken = takes-kept _ _ (queued (b .queue)) (settles-facts (state (b .below)) (state q) (a .settles)) (k .taken) }
+after-passed s t ws e = ap (λ (u : State). buffered u ws) e
 
 -- the same of a call with an answer x, where the buffer's own answer y accepts it
 abbrev Answer : Type 0
@@ -34,9 +30,9 @@ Answer = Result (Unit {0}) Fault
 pub answer-passed : (r x y : Answer) → r ≡ x → x ≡ Ok tt → y ≡ Ok tt → r ≡ y
 answer-passed r x y e p o = e ∙ p ∙ sym o
 
-pub sound-answered : {P : Type 0} (state : P → State) (sound : P → Type 0) (b : WriteBuffer P) (q : P) (r x : Answer) (X : Type 0) → r ≡ x → x ≡ Ok tt →
-    sound q → ByAnswer r (state q ≡ state (b .below)) X → Sound state sound b → Sound state sound (record { below = q; queue = b .queue })
-sound-answered state sound b q r x X e p h a k = sound-passed state sound b q h (in-ok _ X r (e ∙ p) a) k
+pub sound-answered : {P : Type 0} (state : P → State) (sound : P → Type 0) (b : WriteBuffer P) (q : P) (t : State) (r x : Answer) (X : Type 0) → r ≡ x → x ≡ Ok tt →
+    sound q → ByAnswer r (state q ≡ t) X → t .facts ≡ state (b .below) .facts → Sound state sound b → Sound state sound (record { below = q; queue = b .queue })
+sound-answered state sound b q t r x X e p h a f k = sound-passed state sound b q h (facts-passed t (state q) (in-ok _ X r (e ∙ p) a) ∙ f) k
 
 pub after-answered : (s t : State) (ws : List Write) (r x : Answer) (X Y : Type 0) → r ≡ x → x ≡ Ok tt →
     ByAnswer r (t ≡ s) X → ByAnswer r (buffered t ws ≡ buffered s ws) Y

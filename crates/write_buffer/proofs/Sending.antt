@@ -1,13 +1,13 @@
 -- How a queue over a port sends its writes below.
-use mathlib.Core.Path.{_≡_, refl, sym, ap, subst, _∙_}
+use mathlib.Core.Path.{_≡_, sym, ap, subst, _∙_}
 use mathlib.Core.List.{List, [], _∷_, _++_, append-assoc, append-nil}
-use Prim.Native.Nat.{ℕ, _+_, _<_, _≤_}
+use Prim.Native.Nat.{_<_, _≤_}
 use native.Mathlib.Omega.{arith}
 use lib.ListN.{length, length-append}
 use Rattle.std.specs.declared.option.Option.{Option}
 use Rattle.std.specs.declared.result.Result.the-variants.{Ok}
 use Rattle.port.specs.declared.Write.{Write}
-use Rattle.port.specs.Memory.{State, Facts, applied, seen, posted}
+use Rattle.port.specs.Memory.{State, posted}
 use Rattle.port.specs.Meaning.{Settles, Advances}
 use Rattle.port.specs.Steps.{Step, writes, Chain, done, then}
 use Rattle.port.proofs.Settling.{applied-append, settles-none, settles-then, settles-under, seen-kept}
@@ -76,7 +76,7 @@ pub sends-left : {P : Type 0} {does : P → Step → P → Type 0} {p q : P} (ws
     Chain does p (sends (left o)) q → Chain does p (sends (left (leaving ws))) q
 sends-left {P} {does} {p} {q} ws o e c = let F : Option Write → Type 0 = λ x. Chain does p (sends (left x)) q in subst F e c
 
--- a write joins the line where it is long enough for it
+-- a write that joins stands last in the line
 pub joins-line : (s u : State) (ws line : List Write) (w : Write) → line ≡ ws ++ (w ∷ []) → Settles (buffered s line) u → Settles (posted (w ∷ []) (buffered s ws)) u
 joins-line s u ws line w e a =
     let F : State → Type 0 = λ x. Settles x u in

@@ -4,7 +4,7 @@ use mathlib.Core.List.{List, [], _∷_, _++_}
 use Prim.Native.Nat.{ℕ, _+_, _<_, _≤_, min}
 use lib.ListN.{length}
 use Rattle.std.specs.declared.result.Result.{Result}
-use Rattle.std.specs.declared.result.Result.the-variants.{Ok, Err}
+use Rattle.std.specs.declared.result.Result.the-variants.{Ok}
 use Rattle.fault.specs.declared.Fault.{Fault}
 use Rattle.port.specs.declared.Write.{Write}
 use Rattle.port.specs.Memory.{Facts, State, applied, seen, posted}
@@ -68,7 +68,7 @@ pub data AdvancesOne {P : Type 0} (state : P → State) (does : P → Step → P
   oldest : (w : Write) → state (b .below) .waiting ≡ [] → queued (b .queue) ≡ w ∷ queued (c .queue) → SendsOn state does w (b .below) (c .below) → AdvancesOne state does b c
   idle : state (b .below) .waiting ≡ [] → queued (b .queue) ≡ [] → c ≡ b → AdvancesOne state does b c
 
--- A call that the buffer refuses leaves it, its queue and the port below as they were.
+-- A call that the buffer refuses leaves it, its queue and the port below as they were. Of a read that is one past the end: an unreadable word is refused below, and the queue has gone there by then.
 abbrev pub Does : {P : Type 0} → (P → State) → (P → Step → P → Type 0) → WriteBuffer P → Step → WriteBuffer P → Type 0
 Does state does b (reads w r) c =
     ByAnswer (within w (state (b .below) .facts .words) (state (b .below) .facts .floor)) (SendsAndReads does w r b c) (c ≡ b)

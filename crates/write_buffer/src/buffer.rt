@@ -31,10 +31,11 @@ fn send<P: Port>(below: &mut P, write: Write)
     ensures after { λ _. ⌜ Settles (posted (write ∷ []) (state (now (below .entry)))) (state (now (below .exit))) ⌝ }
     ensures did { λ _. ⌜ does (now (below .entry)) (writes write (Ok tt)) (now (below .exit)) ⌝ }
 {
+    // It is taken, so there is no refusal to pass up.
     let _ = below.write(write.word, write.lanes, write.value);
 }
 
-// The same, and if the write still waits there, that port advances once.
+// Sends a write to a port that takes it; if it still waits there, that port advances once.
 fn send_on<P: Port>(below: &mut P, write: Write)
     requires sound { ⌜ sound (now below) ⌝ }
     requires taken { ⌜ writeAnswer (state (now below)) write ≡ Ok tt ⌝ }

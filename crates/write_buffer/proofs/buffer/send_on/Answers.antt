@@ -1,6 +1,6 @@
 use mathlib.Core.Path.{_≡_, ap}
 use mathlib.Core.List.{[]}
-use Prim.Native.Nat.{_<_, _≤_}
+use Prim.Native.Nat.{_<_}
 use native.Mathlib.Omega.{arith}
 use lib.ListN.{length}
 use Rattle.port.specs.Steps.{done, then}

@@ -11,13 +11,13 @@ use Rattle.write_buffer.specs.Buffering.{below, oldest, idle}
 use Rattle.write_buffer.proofs.Queueing.{popped-some, popped-none}
 use Rattle.write_buffer.proofs.Answering.{takes-kept, takes-line}
 use Rattle.write_buffer.proofs.Sending.{settles-facts, advances-below, advances-idle, advances-sent, same-queue}
-use Rattle.write_buffer.proofs.Passing.{sound-advanced}
+use Rattle.write_buffer.proofs.Passing.{sound-passed}
 use Rattle.write_buffer.proofs.buffer.WriteBufferPort.advance.Needs as need
 
 pub returns-then-waiting-gt0 : need.returns-then-waiting-gt0
 returns-then-waiting-gt0 g c =
     let waits : 0 < length (g .P·Port .state (c .args .self .now .below) .waiting) = omega arith in
-    record { sound = search (needs, sound-advanced); after = search (needs, advances-below); did = search (needs, below, then, done) }
+    record { sound = search (needs, sound-passed, settles-facts); after = search (needs, advances-below); did = search (needs, below, then, done) }
 
 pub send-on-requires : need.send-on-requires
 send-on-requires g c κs =

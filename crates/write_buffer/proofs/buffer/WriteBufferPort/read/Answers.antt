@@ -1,9 +1,9 @@
-use mathlib.Core.Path.{_≡_, sym, _∙_}
+use mathlib.Core.Path.{sym, _∙_}
 use Rattle.port.specs.Memory.{seen, posted}
 use Rattle.port.specs.Steps.{done, then}
 use Rattle.port.proofs.Settling.{settles-then}
 use Rattle.write_buffer.specs.Queues.{queued}
-use Rattle.write_buffer.specs.Buffering.{raised, buffered}
+use Rattle.write_buffer.specs.Buffering.{raised}
 use Rattle.write_buffer.proofs.Answering.{within-own, within-any, told-within, reads-through, kept-within, as-ok, takes-line}
 use Rattle.write_buffer.proofs.Sending.{settles-emptied, chain-append}
 use Rattle.write_buffer.proofs.buffer.WriteBufferPort.read.Needs as need

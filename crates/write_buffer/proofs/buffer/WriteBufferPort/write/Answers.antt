@@ -1,4 +1,4 @@
-use mathlib.Core.Path.{_≡_, sym, _∙_}
+use mathlib.Core.Path.{sym}
 use mathlib.Core.List.{_∷_}
 use Rattle.std.specs.declared.option.Option.the-variants.{Some, None}
 use Rattle.port.specs.Meaning.{writing}
