@@ -14,10 +14,10 @@ use Rattle.port.specs.Memory.{Memory, Facts, State, seen, posted}
 use Rattle.port.specs.Meaning.{within, writable, laned, thenOk, told, readAnswer, unreadable, pastEnd, badLanes, ByAnswer, Kept, Settles}
 use Rattle.port.proofs.Settling.{seen-kept}
 use Rattle.write_buffer.specs.Queues.{leaving, joined, left}
-use Rattle.write_buffer.specs.Buffering.{Takes}
+use Rattle.write_buffer.specs.Buffering.{raised, Takes}
 use Rattle.write_buffer.proofs.Queueing.{left-line}
 
-abbrev Answer : Type 0
+abbrev pub Answer : Type 0
 Answer = Result (Unit {0}) Fault
 
 pub as-ok : (A B : Type 0) (r : Answer) → r ≡ Ok tt → A → ByAnswer r A B
@@ -40,29 +40,34 @@ within-at : (b : Bool) (e f : Fault) → tested b e ≡ passed → tested b f �
 within-at true e f h = refl
 within-at false e f h = not-refused e h
 
-pub within-any : (place end f g : ℕ) → within place end f ≡ Ok tt → within place end g ≡ Ok tt
+within-any : (place end f g : ℕ) → within place end f ≡ Ok tt → within place end g ≡ Ok tt
 within-any place end f g h = within-at (ltb place end) (pastEnd place f) (pastEnd place g) h
 
 writable-at : (a b : Bool) (d e f g : Fault) → thenOk (tested a d) (tested b e) ≡ passed → thenOk (tested a f) (tested b g) ≡ passed
 writable-at true b d e f g h = within-at b e g h
 writable-at false b d e f g h = not-refused d h
 
-pub writable-any : (place lanes end f g : ℕ) → writable place lanes end f ≡ Ok tt → writable place lanes end g ≡ Ok tt
+writable-any : (place lanes end f g : ℕ) → writable place lanes end f ≡ Ok tt → writable place lanes end g ≡ Ok tt
 writable-any place lanes end f g h =
     writable-at (ltb place end) (laned lanes) (pastEnd place f) (badLanes place f) (pastEnd place g) (badLanes place g) h
 
--- the buffer's own check, told by what it asked of itself
-pub within-own : (place end f end′ f′ : ℕ) → Ok tt ≡ within place end f → end ≡ end′ → f ≡ f′ → within place end′ f′ ≡ Ok tt
-within-own place end f end′ f′ h a b = sym (h ∙ ap (λ (x : ℕ). within place x f) a ∙ ap (λ (x : ℕ). within place end′ x) b)
+-- what has passed the buffer's own check passes that of the port below too
+pub passes-range : (s : State) (place end floor : ℕ) → Ok tt ≡ within place end floor → end ≡ s .facts .words → floor ≡ raised s .facts .floor →
+    (within place (s .facts .words) (raised s .facts .floor) ≡ Ok tt) × (within place (s .facts .words) (s .facts .floor) ≡ Ok tt)
+passes-range s place end floor h e f =
+    let own = sym (h ∙ ap (λ (x : ℕ). within place x floor) e ∙ ap (λ (x : ℕ). within place (s .facts .words) x) f) in
+    (own, within-any place (s .facts .words) (raised s .facts .floor) (s .facts .floor) own)
 
-pub writable-own : (place lanes end f end′ f′ : ℕ) → Ok tt ≡ writable place lanes end f → end ≡ end′ → f ≡ f′ → writable place lanes end′ f′ ≡ Ok tt
-writable-own place lanes end f end′ f′ h a b =
-    sym (h ∙ ap (λ (x : ℕ). writable place lanes x f) a ∙ ap (λ (x : ℕ). writable place lanes end′ x) b)
+pub passes-write : (s : State) (place lanes end floor : ℕ) → Ok tt ≡ writable place lanes end floor → end ≡ s .facts .words → floor ≡ raised s .facts .floor →
+    (writable place lanes (s .facts .words) (raised s .facts .floor) ≡ Ok tt) × (writable place lanes (s .facts .words) (s .facts .floor) ≡ Ok tt)
+passes-write s place lanes end floor h e f =
+    let own = sym (h ∙ ap (λ (x : ℕ). writable place lanes x floor) e ∙ ap (λ (x : ℕ). writable place lanes (s .facts .words) x) f) in
+    (own, writable-any place lanes (s .facts .words) (raised s .facts .floor) (s .facts .floor) own)
 
 -- what is told of a word within range, whatever the floor
 pub told-within : (f : Facts) (m : Memory) (w : ℕ) → within w (f .words) (f .floor) ≡ Ok tt →
     told f m w ≡ cond (m .readable w) (Ok (m .word w)) (Err (unreadable w))
-told-within f m w e = ap (λ (r : Result (Unit {0}) Fault). thenOk r (cond (m .readable w) (Ok (m .word w)) (Err (unreadable w)))) e
+told-within f m w e = ap (λ (r : Answer). thenOk r (cond (m .readable w) (Ok (m .word w)) (Err (unreadable w)))) e
 
 kept-at : {P : Type 0} (b : Bool) (v w : ℕ) (p q : P) → Kept (cond b (Ok v) (Err (unreadable w))) p q
 kept-at true v w p q = tt

@@ -1,9 +1,7 @@
 -- Nothing is lost between a buffer and the port below.
 use mathlib.Core.Path.{_≡_, refl, sym, ap, subst, _∙_}
 use mathlib.Core.List.{List, [], _∷_, _++_, append-assoc, append-nil}
-use Rattle.std.specs.declared.result.Result.{Result}
 use Rattle.std.specs.declared.result.Result.the-variants.{Ok, Err}
-use Rattle.fault.specs.declared.Fault.{Fault}
 use Rattle.port.specs.declared.Write.{Write}
 use Rattle.port.specs.Memory.{State}
 use Rattle.port.specs.Meaning.{ByAnswer}
@@ -13,6 +11,7 @@ use Rattle.write_buffer.specs.Queues.{queued, leaving, left}
 use Rattle.write_buffer.specs.Buffering.{sends, PassesOn, Joins, SendsAndReads, SendsOn, settled, waited, AdvancesOne, below, oldest, idle, Does}
 use Rattle.write_buffer.specs.Runs.{writtenBy, written, heardBy, heard, Below, Nothing-is-lost}
 use Rattle.write_buffer.proofs.Queueing.{oldest-leaves-first}
+use Rattle.write_buffer.proofs.Answering.{Answer}
 use Rattle.write_buffer.proofs.Sending.{chain-append}
 
 written-append : (xs ys : List Step) → written (xs ++ ys) ≡ written xs ++ written ys
@@ -97,7 +96,7 @@ advance-below state does b c (below waits a) = passed-below does advances [] b c
 advance-below state does b c (oldest w none line a) = sent-below state does w b c line a
 advance-below state does b c (idle none empty same) = unchanged does b c same
 
-either : {R : Type 0} (A B : Type 0) (r : Result (Unit {0}) Fault) → (A → R) → (B → R) → ByAnswer r A B → R
+either : {R : Type 0} (A B : Type 0) (r : Answer) → (A → R) → (B → R) → ByAnswer r A B → R
 either A B (Ok _) f g a = f a
 either A B (Err _) f g a = g a
 

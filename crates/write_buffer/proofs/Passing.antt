@@ -1,9 +1,7 @@
 -- What a call that is passed on keeps.
 use mathlib.Core.Path.{_≡_, refl, sym, ap, _∙_}
 use mathlib.Core.List.{List}
-use Rattle.std.specs.declared.result.Result.{Result}
 use Rattle.std.specs.declared.result.Result.the-variants.{Ok}
-use Rattle.fault.specs.declared.Fault.{Fault}
 use Rattle.port.specs.declared.Write.{Write}
 use Rattle.port.specs.Memory.{State}
 use Rattle.port.specs.Meaning.{ByAnswer}
@@ -11,7 +9,7 @@ use Rattle.port.specs.Steps.{Step, done, then}
 use Rattle.write_buffer.specs.declared.buffer.WriteBuffer.{WriteBuffer}
 use Rattle.write_buffer.specs.Queues.{queued}
 use Rattle.write_buffer.specs.Buffering.{buffered, Sound, PassesOn}
-use Rattle.write_buffer.proofs.Answering.{as-ok, in-ok, takes-kept}
+use Rattle.write_buffer.proofs.Answering.{Answer, as-ok, in-ok, takes-kept}
 
 pub sound-passed : {P : Type 0} (state : P → State) (sound : P → Type 0) (b : WriteBuffer P) (q : P) → sound q → state q .facts ≡ state (b .below) .facts →
     Sound state sound b → Sound state sound (record { below = q; queue = b .queue })
@@ -24,9 +22,6 @@ pub after-passed : (s t : State) (ws : List Write) → t ≡ s → buffered t ws
 after-passed s t ws e = ap (λ (u : State). buffered u ws) e
 
 -- the same of a call with an answer x, where the buffer's own answer y accepts it
-abbrev Answer : Type 0
-Answer = Result (Unit {0}) Fault
-
 pub answer-passed : (r x y : Answer) → r ≡ x → x ≡ Ok tt → y ≡ Ok tt → r ≡ y
 answer-passed r x y e p o = e ∙ p ∙ sym o
 

@@ -14,8 +14,8 @@ use Rattle.port.proofs.Settling.{applied-append, settles-none, settles-then, se
 use Rattle.write_buffer.specs.declared.buffer.WriteBuffer.{WriteBuffer}
 use Rattle.write_buffer.specs.declared.queue.Queue.{Queue}
 use Rattle.write_buffer.specs.Queues.{leaving, left}
-use Rattle.write_buffer.proofs.Queueing.{at-most-four}
 use Rattle.write_buffer.specs.Buffering.{raised, buffered, sends, Buffering-is-lawful}
+use Rattle.write_buffer.proofs.Queueing.{at-most-four}
 
 pub settles-facts : (s t : State) → Settles s t → t .facts ≡ s .facts
 settles-facts s t a = ap (λ (x : State). x .facts) (a .after)

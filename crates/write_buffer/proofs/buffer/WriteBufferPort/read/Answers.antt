@@ -4,7 +4,7 @@ use Rattle.port.specs.Steps.{done, then}
 use Rattle.port.proofs.Settling.{settles-then}
 use Rattle.write_buffer.specs.Queues.{queued}
 use Rattle.write_buffer.specs.Buffering.{raised}
-use Rattle.write_buffer.proofs.Answering.{within-own, within-any, told-within, reads-through, kept-within, as-ok, takes-line}
+use Rattle.write_buffer.proofs.Answering.{passes-range, told-within, reads-through, kept-within, as-ok, takes-line}
 use Rattle.write_buffer.proofs.Sending.{settles-emptied, chain-append}
 use Rattle.write_buffer.proofs.buffer.WriteBufferPort.read.Needs as need
 
@@ -16,13 +16,12 @@ returns g c =
     let ws = queued (c .args .self .now .queue) in
     let vs = queued (c .send-all .last .queue) in
     let word = c .args .word in
-    let own = within-own word (c .words .result) (c .floor .result) (s .facts .words) (raised s .facts .floor) (c .in-Continue-check-range .ensures tt) (c .words .ensures .value) (c .floor .ensures) in
-    let passes = within-any word (s .facts .words) (raised s .facts .floor) (s .facts .floor) own in
-    let cell = reads-through s t ws word (c .read .result) (c .send-all .ensures .after) passes (c .read .ensures .value) in
+    let checked = passes-range s word (c .words .result) (c .floor .result) (c .in-Continue-check-range .ensures tt) (c .words .ensures .value) (c .floor .ensures) in
+    let cell = reads-through s t ws word (c .read .result) (c .send-all .ensures .after) (checked .1) (c .read .ensures .value) in
     record {
       sound = record { below = c .read .ensures .sound; taken = takes-line (u .facts) _ vs (sym (c .send-all .ensures .queue)) tt };
-      value = cell ∙ sym (told-within (raised s .facts) (seen (posted ws s)) word own);
+      value = cell ∙ sym (told-within (raised s .facts) (seen (posted ws s)) word (checked .0));
       after = settles-emptied s u ws vs (c .send-all .ensures .queue) (settles-then (posted ws s) t u (c .send-all .ensures .after) (c .read .ensures .after));
       kept = kept-within (c .read .result) (seen (posted ws s)) word _ _ cell;
-      did = as-ok _ _ _ passes record { queue = c .send-all .ensures .queue; below = chain-append (c .send-all .ensures .did) (then (c .read .ensures .did) done) };
+      did = as-ok _ _ _ (checked .1) record { queue = c .send-all .ensures .queue; below = chain-append (c .send-all .ensures .did) (then (c .read .ensures .did) done) };
     }
