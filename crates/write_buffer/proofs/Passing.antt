@@ -1,15 +1,19 @@
--- What a call that is passed on keeps.
+-- What a buffer is made with, and what a call that is passed on keeps.
 use mathlib.Core.Path.{_≡_, refl, sym, ap, _∙_}
-use mathlib.Core.List.{List}
+use mathlib.Core.List.{List, []}
 use Rattle.std.specs.declared.result.Result.the-variants.{Ok}
 use Rattle.port.specs.declared.Write.{Write}
 use Rattle.port.specs.Memory.{State}
 use Rattle.port.specs.Meaning.{ByAnswer}
 use Rattle.port.specs.Steps.{Step, done, then}
 use Rattle.write_buffer.specs.declared.buffer.WriteBuffer.{WriteBuffer}
+use Rattle.write_buffer.specs.declared.queue.Queue.{Queue}
 use Rattle.write_buffer.specs.Queues.{queued}
 use Rattle.write_buffer.specs.Buffering.{buffered, Sound, PassesOn}
-use Rattle.write_buffer.proofs.Answering.{Answer, as-ok, in-ok, takes-kept}
+use Rattle.write_buffer.proofs.Answering.{Answer, as-ok, in-ok, takes-kept, takes-line}
+
+pub sound-empty : {P : Type 0} (state : P → State) (sound : P → Type 0) (p : P) (k : Queue) → sound p → queued k ≡ [] → Sound state sound (record { below = p; queue = k })
+sound-empty state sound p k h e = record { below = h; taken = takes-line (state p .facts) [] (queued k) (sym e) tt }
 
 pub sound-passed : {P : Type 0} (state : P → State) (sound : P → Type 0) (b : WriteBuffer P) (q : P) → sound q → state q .facts ≡ state (b .below) .facts →
     Sound state sound b → Sound state sound (record { below = q; queue = b .queue })

@@ -38,9 +38,9 @@ returns-in-Some g c =
     let line = popped-some ws vs o (c .in-Some .ensures tt .value) (c .in-Some .ensures tt .after) in
     let none : s .waiting ≡ [] = none-waits (s .waiting) (omega arith) in
     record {
+      did = search (needs, oldest);
       sound = record { below = c .send-on .ensures .sound; taken = takes-kept (s .facts) (t .facts) vs (settles-facts _ t (c .send-on .ensures .after)) (takes-line (s .facts) _ _ line (c .pre .taken) .1) };
       after = advances-sent s t ws vs o line (c .send-on .ensures .after) (c .send-on .ensures .fewer);
-      did = oldest o none line (c .send-on .ensures .did);
     }
 
 pub returns-in-rest : need.returns-in-rest
