@@ -4,6 +4,8 @@ use banks::EpromPort;
 use banks::Line;
 use banks::RamBank;
 use banks::RamPort;
+use board::Answer;
+use board::run;
 use calls::Call;
 use calls::ListError;
 use calls::read_list;
@@ -16,6 +18,8 @@ use std::alloc::AllocError;
 use std::alloc::Global;
 use std::io;
 use std::io::Read;
+use write_buffer::WriteBuffer;
+use write_buffer::WriteBufferPort;
 
 /// One byte more than a list may have, so that a longer one is seen to be too long.
 const INPUT_BYTES: u64 = 16_385;
@@ -53,76 +57,32 @@ fn make_eprom(heap: Global) -> Result<Vec<u8>, AllocError> {
     Ok(bytes)
 }
 
-fn print_fault(rt: &LibcRuntime, number: u64, name: &str, fault: Fault) -> io::Result<()> {
-    let refusal = fault.refusal;
-    let place = fault.place;
-    let floor = fault.floor;
-    println!(
-        rt,
-        "{number} {name} refused {refusal} at {place} floor {floor}"
-    )
-}
-
-fn print_word(
-    rt: &LibcRuntime,
-    number: u64,
-    name: &str,
-    answer: Result<u16, Fault>,
-) -> io::Result<()> {
+fn print_answer(rt: &LibcRuntime, number: u64, name: &str, answer: Result<Answer, Fault>) -> io::Result<()> {
     match answer {
-        Ok(value) => println!(rt, "{number} {name} {value:04X}"),
-        Err(fault) => print_fault(rt, number, name, fault),
-    }
-}
-
-fn print_done(
-    rt: &LibcRuntime,
-    number: u64,
-    name: &str,
-    answer: Result<(), Fault>,
-) -> io::Result<()> {
-    match answer {
-        Ok(()) => println!(rt, "{number} {name} ok"),
-        Err(fault) => print_fault(rt, number, name, fault),
-    }
-}
-
-// Runs one call on a port, and prints its answer; a call that needs a board is not mounted yet.
-fn run_call<P: Port>(rt: &LibcRuntime, number: u64, port: &mut P, call: Call) -> io::Result<()>
-    requires { ⌜ P·Port .sound (now port) ⌝ }
-    ensures { λ _. ⌜ P·Port .sound (now (port .exit)) ⌝ }
-{
-    let name = call.name();
-    match call {
-        Call::Read(word) => print_word(rt, number, name, port.read(word)),
-        Call::Write(store) => print_done(
-            rt,
-            number,
-            name,
-            port.write(store.word, store.lanes, store.value),
-        ),
-        Call::Advance => {
-            port.advance();
-            print_done(rt, number, name, Ok(()))
+        Ok(Answer::Done) => println!(rt, "{number} {name} ok"),
+        Ok(Answer::Word(value)) => println!(rt, "{number} {name} {value:04X}"),
+        Err(fault) => {
+            let refusal = fault.refusal;
+            let place = fault.place;
+            let floor = fault.floor;
+            println!(rt, "{number} {name} refused {refusal} at {place} floor {floor}")
         }
-        Call::Snoop(word) => print_done(rt, number, name, port.snoop(word)),
-        Call::Flush => {
-            port.flush();
-            print_done(rt, number, name, Ok(()))
-        }
-        _ => println!(rt, "{number} {name} not mounted"),
     }
 }
 
-fn run_calls<P: Port>(rt: &LibcRuntime, port: &mut P, calls: &[Call]) -> io::Result<()>
-    requires { ⌜ P·Port .sound (now port) ⌝ }
+// Runs the calls on a board over the port, and prints each answer and how many writes wait in the end.
+fn run_calls<P: Port + Drop>(rt: &LibcRuntime, port: P, calls: &[Call]) -> io::Result<()>
+    requires { ⌜ P·Port .sound port ⌝ }
 {
+    let Ok(outcome) = run(rt.alloc(), port, calls) else {
+        return Err(AllocError.into());
+    };
     let mut number = 0u64;
-    for call in calls {
+    for (call, answer) in calls.iter().zip(outcome.answers.iter()) {
         number = number.saturating_add(1);
-        run_call(rt, number, port, *call)?;
+        print_answer(rt, number, call.name(), *answer)?;
     }
-    let waiting = port.waiting();
+    let waiting = outcome.board.waiting();
     println!(rt, "waiting {waiting}")
 }
 
@@ -131,11 +91,12 @@ fn main(rt: LibcRuntime) -> io::Result<()> {
     rt.stdin().take(INPUT_BYTES).read_to_end(&mut list)?;
     let mut lines = make_ram(rt.alloc())?;
     let bytes = make_eprom(rt.alloc())?;
-    let mut memory = JoinedMap::new(RamBank::new(&mut lines), EpromBank::new(&bytes));
-    let words = memory.words();
+    let memory = JoinedMap::new(RamBank::new(&mut lines), EpromBank::new(&bytes));
+    let pile = WriteBuffer::new(memory);
+    let words = pile.words();
     println!(rt, "board {words} words")?;
     match read_list(rt.alloc(), &list) {
-        Ok(calls) => run_calls(&rt, &mut memory, &calls),
+        Ok(calls) => run_calls(&rt, pile, &calls),
         Err(ListError::Refused(fault)) => {
             let refusal = fault.refusal;
             let place = fault.place;

@@ -18,6 +18,7 @@ use port::check_range;
 use port::check_write;
 
 /// A port whose processor writes wait in a queue before they go to the port below.
+#[derive(Drop)]
 pub struct WriteBuffer<P: Port> {
     below: P,
     queue: Queue,
