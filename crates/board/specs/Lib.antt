@@ -1,0 +1,3 @@
+pub mod Tables
+pub mod Book
+pub mod Calling
