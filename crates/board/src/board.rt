@@ -140,14 +140,160 @@ impl<P: Port> Board<P> {
     }
 
     // The fault of a call that the mode turns down.
-    fn refuse(&self, refusal: Refusal, call: Call) -> Fault
+    fn refuse(&self, refusal: Refusal, place: u32) -> Fault
         requires { ⌜ P·Port .sound (now self .port) ⌝ }
-        ensures { λ r. ⌜ r ≡ record { refusal = refusal; place = placeIn (cargoOf call); floor = boardFloor (P·Port .state (now (self .entry) .port) .facts .floor) } ⌝ }
+        ensures { λ r. ⌜ r ≡ record { refusal = refusal; place = place; floor = boardFloor (P·Port .state (now (self .entry) .port) .facts .floor) } ⌝ }
     {
         Fault {
             refusal,
-            place: place_of(call),
+            place,
             floor: self.floor(),
         }
+    }
+
+    /// Makes a call without tokens. The mode and the call together decide what is done.
+    pub fn call(&mut self, call: Call) -> Result<Answer, Fault>
+        requires { ⌜ P·Port .sound (now self .port) ⌝ }
+        ensures sound { λ _. ⌜ P·Port .sound (now (self .exit) .port) ⌝ }
+        ensures called { λ r. ⌜ Called (P·Port .state) (P·Port .does) (now (self .entry) .mode) (now (self .entry) .port) call r (now (self .exit) .mode) (now (self .exit) .port) ⌝ }
+    {
+        let place = place_of(call);
+        match (call, self.mode) {
+            (Call::Read(word), Mode::Free | Mode::Granted) => worded(self.port.read(word)),
+            (Call::Write(store), Mode::Free | Mode::Granted) => done(
+                self.port.write(store.word, store.lanes, store.value),
+            ),
+            (Call::Unposted(store), Mode::Free | Mode::Granted) => done(write_through(
+                &mut self.port,
+                store,
+            )),
+            (Call::LockedWrite(store), Mode::Locked) => done(write_through(&mut self.port, store)),
+            (Call::LockedRead(word), Mode::Locked) | (Call::MasterRead(word), Mode::Granted) =>
+                worded(self.port.settled_read(word)),
+            (Call::MasterWrite(store), Mode::Granted) => done(
+                self.port
+                    .outside_write(store.word, store.lanes, store.value),
+            ),
+            (Call::Lock, Mode::Free) => {
+                settle_all(&mut self.port);
+                self.mode = Mode::Locked;
+                Ok(Answer::Done)
+            }
+            (Call::Ask, Mode::Free) => {
+                self.mode = Mode::Granted;
+                Ok(Answer::Done)
+            }
+            (Call::Unlock, Mode::Locked) | (Call::Give, Mode::Granted) => {
+                self.mode = Mode::Free;
+                Ok(Answer::Done)
+            }
+            (Call::Advance, _) => {
+                self.port.advance();
+                Ok(Answer::Done)
+            }
+            (Call::Snoop(word), _) => done(self.port.snoop(word)),
+            (Call::Flush, _) => {
+                self.port.flush();
+                Ok(Answer::Done)
+            }
+            (Call::LockedRead(_) | Call::LockedWrite(_) | Call::Unlock, _) => Err(self.refuse(
+                Refusal::NotLocked,
+                place,
+            )),
+            (Call::MasterRead(_) | Call::MasterWrite(_) | Call::Give, _) => Err(self.refuse(
+                Refusal::NotGranted,
+                place,
+            )),
+            (_, Mode::Locked) => Err(self.refuse(Refusal::Locked, place)),
+            _ => Err(self.refuse(Refusal::Granted, place)),
+        }
+    }
+
+    /// Locks the board, once nothing waits, and hands out its lock.
+    pub fn lock(&mut self) -> Result<Lock, Fault>
+        requires { ⌜ P·Port .sound (now self .port) ⌝ }
+        ensures sound { λ _. ⌜ P·Port .sound (now (self .exit) .port) ⌝ }
+        ensures called { λ r. ⌜ Called (P·Port .state) (P·Port .does) (now (self .entry) .mode) (now (self .entry) .port) Locks (asDone r) (now (self .exit) .mode) (now (self .exit) .port) ⌝ }
+    {
+        self.call(Call::Lock)?;
+        Ok(Lock { mark: () })
+    }
+
+    /// Unlocks the board. The lock is spent, even where the board turns out not to be locked.
+    pub fn unlock(&mut self, lock: Lock) -> Result<(), Fault>
+        requires { ⌜ P·Port .sound (now self .port) ⌝ }
+        ensures sound { λ _. ⌜ P·Port .sound (now (self .exit) .port) ⌝ }
+        ensures called { λ r. ⌜ Called (P·Port .state) (P·Port .does) (now (self .entry) .mode) (now (self .entry) .port) Unlocks (asDone r) (now (self .exit) .mode) (now (self .exit) .port) ⌝ }
+    {
+        let Lock { mark: () } = lock;
+        self.call(Call::Unlock)?;
+        Ok(())
+    }
+
+    /// The settled word, for the holder of the lock.
+    pub fn locked_read(&mut self, _lock: &Lock, word: u32) -> Result<u16, Fault>
+        requires { ⌜ P·Port .sound (now self .port) ⌝ }
+        ensures sound { λ _. ⌜ P·Port .sound (now (self .exit) .port) ⌝ }
+        ensures called { λ r. ⌜ Called (P·Port .state) (P·Port .does) (now (self .entry) .mode) (now (self .entry) .port) (LockedRead word) (asWord r) (now (self .exit) .mode) (now (self .exit) .port) ⌝ }
+    {
+        match self.call(Call::LockedRead(word))? {
+            Answer::Word(value) => Ok(value),
+            // never: a read that is taken answers a word
+            Answer::Done => Ok(0),
+        }
+    }
+
+    /// A write by the holder of the lock, which has settled when the call returns.
+    pub fn locked_write(&mut self, _lock: &Lock, store: Store) -> Result<(), Fault>
+        requires { ⌜ P·Port .sound (now self .port) ⌝ }
+        ensures sound { λ _. ⌜ P·Port .sound (now (self .exit) .port) ⌝ }
+        ensures called { λ r. ⌜ Called (P·Port .state) (P·Port .does) (now (self .entry) .mode) (now (self .entry) .port) (LockedWrite store) (asDone r) (now (self .exit) .mode) (now (self .exit) .port) ⌝ }
+    {
+        self.call(Call::LockedWrite(store))?;
+        Ok(())
+    }
+
+    /// Grants the board to the display unit, and hands out the grant.
+    pub fn ask(&mut self) -> Result<Grant, Fault>
+        requires { ⌜ P·Port .sound (now self .port) ⌝ }
+        ensures sound { λ _. ⌜ P·Port .sound (now (self .exit) .port) ⌝ }
+        ensures called { λ r. ⌜ Called (P·Port .state) (P·Port .does) (now (self .entry) .mode) (now (self .entry) .port) Asks (asDone r) (now (self .exit) .mode) (now (self .exit) .port) ⌝ }
+    {
+        self.call(Call::Ask)?;
+        Ok(Grant { mark: () })
+    }
+
+    /// Ends the grant. It is spent, even where the board turns out not to be granted.
+    pub fn give(&mut self, grant: Grant) -> Result<(), Fault>
+        requires { ⌜ P·Port .sound (now self .port) ⌝ }
+        ensures sound { λ _. ⌜ P·Port .sound (now (self .exit) .port) ⌝ }
+        ensures called { λ r. ⌜ Called (P·Port .state) (P·Port .does) (now (self .entry) .mode) (now (self .entry) .port) Gives (asDone r) (now (self .exit) .mode) (now (self .exit) .port) ⌝ }
+    {
+        let Grant { mark: () } = grant;
+        self.call(Call::Give)?;
+        Ok(())
+    }
+
+    /// The settled word, for the holder of the grant.
+    pub fn master_read(&mut self, _grant: &Grant, word: u32) -> Result<u16, Fault>
+        requires { ⌜ P·Port .sound (now self .port) ⌝ }
+        ensures sound { λ _. ⌜ P·Port .sound (now (self .exit) .port) ⌝ }
+        ensures called { λ r. ⌜ Called (P·Port .state) (P·Port .does) (now (self .entry) .mode) (now (self .entry) .port) (MasterRead word) (asWord r) (now (self .exit) .mode) (now (self .exit) .port) ⌝ }
+    {
+        match self.call(Call::MasterRead(word))? {
+            Answer::Word(value) => Ok(value),
+            // never: a read that is taken answers a word
+            Answer::Done => Ok(0),
+        }
+    }
+
+    /// A write by the holder of the grant, which goes past the waiting line.
+    pub fn master_write(&mut self, _grant: &Grant, store: Store) -> Result<(), Fault>
+        requires { ⌜ P·Port .sound (now self .port) ⌝ }
+        ensures sound { λ _. ⌜ P·Port .sound (now (self .exit) .port) ⌝ }
+        ensures called { λ r. ⌜ Called (P·Port .state) (P·Port .does) (now (self .entry) .mode) (now (self .entry) .port) (MasterWrite store) (asDone r) (now (self .exit) .mode) (now (self .exit) .port) ⌝ }
+    {
+        self.call(Call::MasterWrite(store))?;
+        Ok(())
     }
 }

@@ -1,0 +1,73 @@
+use mathlib.Core.Path.{_≡_, refl}
+use borrow.Author.Needs.{needs}
+use Rattle.std.specs.declared.option.Option.the-variants.{None}
+use Rattle.calls.specs.declared.call.Call.the-variants.{Unposted, LockedWrite}
+use Rattle.board.specs.Tables.{unlessLocked, ifLocked, ifGranted, ifFree}
+use Rattle.board.proofs.Taking.{known-as, read-called, write-called, outside-called, store-called, landed-all, lock-called, advance-called, snoop-called, flush-called}
+use Rattle.board.proofs.board.Board.call.Needs as need
+
+pub returns-in-Read-Free : need.returns-in-Read-Free
+returns-in-Read-Free g c =
+    let e : unlessLocked (c .args .self .now .mode) ≡ None = search needs in
+    record {
+      sound = c .read .ensures .sound;
+      called = known-as _ _ _ _ _ _ _ _ _ (c .in-Read-Free .is-0) (read-called _ _ _ _ (c .in-Read-Free .word) _ _ _ e (c .read .ensures .value) (c .worded .ensures) (c .read .ensures .after) (c .read .ensures .kept) (c .read .ensures .did));
+    }
+
+pub returns-in-Write-Free : need.returns-in-Write-Free
+returns-in-Write-Free g c =
+    let e : unlessLocked (c .args .self .now .mode) ≡ None = search needs in
+    record {
+      sound = c .write .ensures .sound;
+      called = known-as _ _ _ _ _ _ _ _ _ (c .in-Write-Free .is-0) (write-called _ _ _ _ (c .in-Write-Free .store) _ _ _ e (c .write .ensures .value) (c .done .ensures) (c .write .ensures .after) (c .write .ensures .did));
+    }
+
+pub returns-in-MasterWrite-Granted : need.returns-in-MasterWrite-Granted
+returns-in-MasterWrite-Granted g c =
+    let e : ifGranted (c .args .self .now .mode) ≡ None = search needs in
+    record {
+      sound = c .outside-write .ensures .sound;
+      called = known-as _ _ _ _ _ _ _ _ _ (c .in-MasterWrite-Granted .is-0) (outside-called _ _ _ _ (c .in-MasterWrite-Granted .store) _ _ _ e (c .outside-write .ensures .value) (c .done-in-MasterWrite-Granted .ensures) (c .outside-write .ensures .after) (c .outside-write .ensures .did));
+    }
+
+pub returns-in-Lock-Free : need.returns-in-Lock-Free
+returns-in-Lock-Free g c =
+    let e : ifFree (c .args .self .now .mode) ≡ None = search needs in
+    record {
+      sound = c .settle-all .ensures .sound;
+      called = known-as _ _ _ _ _ _ _ _ _ (c .in-Lock-Free .is-0) (lock-called _ _ _ _ _ e (c .settle-all .ensures .after) (c .settle-all .ensures .did));
+    }
+
+pub returns-in-Advance-rest : need.returns-in-Advance-rest
+returns-in-Advance-rest g c = record {
+  sound = c .advance .ensures .sound;
+  called = known-as _ _ _ _ _ _ _ _ _ (c .in-Advance-rest .is-0) (advance-called _ _ _ _ _ (c .advance .ensures .after) (c .advance .ensures .did));
+}
+
+pub returns-in-Snoop-rest : need.returns-in-Snoop-rest
+returns-in-Snoop-rest g c = record {
+  sound = c .snoop .ensures .sound;
+  called = known-as _ _ _ _ _ _ _ _ _ (c .in-Snoop-rest .is-0) (snoop-called _ _ _ _ (c .in-Snoop-rest .word) _ _ _ (c .snoop .ensures .value) (c .done-in-Snoop-rest .ensures) (c .snoop .ensures .after) (c .snoop .ensures .did));
+}
+
+pub returns-in-Flush-rest : need.returns-in-Flush-rest
+returns-in-Flush-rest g c = record {
+  sound = c .flush .ensures .sound;
+  called = known-as _ _ _ _ _ _ _ _ _ (c .in-Flush-rest .is-0) (flush-called _ _ _ _ _ (c .flush .ensures .after) (c .flush .ensures .did));
+}
+
+pub returns-in-Unposted-Free : need.returns-in-Unposted-Free
+returns-in-Unposted-Free g c =
+    let e : unlessLocked (c .args .self .now .mode) ≡ None = search needs in
+    record {
+      sound = c .write-through .ensures .sound;
+      called = known-as _ _ _ _ _ _ _ _ _ (c .in-Unposted-Free .is-0) (store-called _ _ _ _ (Unposted (c .in-Unposted-Free .store)) (c .in-Unposted-Free .store) _ _ _ _ refl refl e refl (c .write-through .ensures .value) (c .done-in-Unposted-Free .ensures) (landed-all (Unposted (c .in-Unposted-Free .store)) _ _ refl) (c .write-through .ensures .after) (c .write-through .ensures .did));
+    }
+
+pub returns-in-LockedWrite-Locked : need.returns-in-LockedWrite-Locked
+returns-in-LockedWrite-Locked g c =
+    let e : ifLocked (c .args .self .now .mode) ≡ None = search needs in
+    record {
+      sound = c .write-through-in-LockedWrite-Locked .ensures .sound;
+      called = known-as _ _ _ _ _ _ _ _ _ (c .in-LockedWrite-Locked .is-0) (store-called _ _ _ _ (LockedWrite (c .in-LockedWrite-Locked .store)) (c .in-LockedWrite-Locked .store) _ _ _ _ refl refl e refl (c .write-through-in-LockedWrite-Locked .ensures .value) (c .done-in-LockedWrite-Locked .ensures) (landed-all (LockedWrite (c .in-LockedWrite-Locked .store)) _ _ refl) (c .write-through-in-LockedWrite-Locked .ensures .after) (c .write-through-in-LockedWrite-Locked .ensures .did));
+    }
