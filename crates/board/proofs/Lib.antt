@@ -4,3 +4,4 @@ pub mod Bytes
 pub mod Records
 pub mod Locks
 pub mod Sameness
+pub mod Running

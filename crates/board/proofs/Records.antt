@@ -184,7 +184,7 @@ once-length b es (c ∷ cs) (k ∷ ks) q h =
 
 pub once-settled : (b : Book) (cs : List Call) (ks : List ℕ) → b .state .waiting ≡ [] → Admitted b cs ks
     → (processorHistory (b .state .protected) [] cs (answers b cs ks) ks ≡ take (total ks) (accepted (b .state .protected) cs (answers b cs ks)))
-      × (waits (b .state .protected) [] cs (answers b cs ks) ks ≡ drop (total ks) (accepted (b .state .protected) cs (answers b cs ks)))
+    × (waits (b .state .protected) [] cs (answers b cs ks) ks ≡ drop (total ks) (accepted (b .state .protected) cs (answers b cs ks)))
 once-settled b cs ks e h =
     let p = b .state .protected in
     let rs = answers b cs ks in

@@ -95,7 +95,7 @@ floorless : (x y : ℕ) (c : Call) (v : Result Answer Refusal) → heard c (told
 floorless x y c (Ok a) = refl
 floorless x y c (Err r) = refl
 
-both-none : (x y : Option Refusal) → orElse x y ≡ None → (x ≡ None) × (y ≡ None)
+pub both-none : (x y : Option Refusal) → orElse x y ≡ None → (x ≡ None) × (y ≡ None)
 both-none None y e = (refl, e)
 both-none (Some x) y e = let z : _≡_ {A = ℕ} 0 1 = cc in absurd (omega arith)
 
@@ -106,7 +106,7 @@ in-range n w e = go (ltb w n) refl
     go true f = ltb-true w n f
     go false f = let g = sym (ap (λ (x : Bool). cond x None (Some PastEnd)) f) ∙ e in let z : _≡_ {A = ℕ} 0 1 = cc in absurd (omega arith)
 
-is-locked : (m : Mode) → ifLocked m ≡ None → m ≡ Locked
+pub is-locked : (m : Mode) → ifLocked m ≡ None → m ≡ Locked
 is-locked Free e = cc
 is-locked Locked e = refl
 is-locked Granted e = cc
@@ -145,9 +145,9 @@ says-alike b d h Ask e = refl
 says-alike b d h (MasterRead w) e =
     let lt = in-range (b .state .facts .words) w (both-none (stop (b .mode) (MasterRead w)) (inRange (b .state .facts .words) w) e .1) in
     let r : b .state .settled .readable w ≡ d .state .settled .readable w =
-        sym (ap (λ (r : ℕ → Bool). r w) (applied-readable (b .state .protected) (b .state .waiting) (b .state .settled)))
-        ∙ h .readable w lt
-        ∙ ap (λ (r : ℕ → Bool). r w) (applied-readable (d .state .protected) (d .state .waiting) (d .state .settled)) in
+    sym (ap (λ (r : ℕ → Bool). r w) (applied-readable (b .state .protected) (b .state .waiting) (b .state .settled)))
+    ∙ h .readable w lt
+    ∙ ap (λ (r : ℕ → Bool). r w) (applied-readable (d .state .protected) (d .state .waiting) (d .state .settled)) in
     unheard 0 w (b .state .settled .word w) (d .state .settled .word w) (b .state .settled .readable w)
     ∙ ap (λ (x : Bool). heard (MasterRead w) (told 0 (MasterRead w) (cond x (Ok (Word (d .state .settled .word w))) (Err Unreadable)))) r
 says-alike b d h (MasterWrite s) e = refl

@@ -14,10 +14,13 @@ use Rattle.calls.specs.declared.call.Call.{Call}
 use Rattle.calls.specs.declared.call.Call.the-variants.{Read, LockedRead, Flush}
 use Rattle.port.specs.Lanes.{Lane, byte, covers}
 use Rattle.port.specs.Memory.{State, seen, applied, lineOf}
-use Rattle.board.specs.declared.answer.Mode.the-variants.{Locked}
+use Rattle.port.specs.Steps.{Step, Drains}
+use Rattle.board.specs.declared.answer.Mode.{Mode}
+use Rattle.board.specs.declared.answer.Mode.the-variants.{Free, Locked}
 use Rattle.board.specs.declared.answer.Answer.{Answer}
 use Rattle.board.specs.declared.answer.Answer.the-variants.{Done, Word}
-use Rattle.board.specs.Book.{Book, first, step, answer, Allowed}
+use Rattle.board.specs.Book.{Book, bookOf, first, step, answer, Allowed}
+use Rattle.board.specs.Calling.{Called}
 use Rattle.board.specs.Runs.{after, answers, Admitted, Entry, waits, history, processorHistory, accepted, total, Quiet, lockedWrites, Held, allHeard}
 
 -- WHERE A BYTE COMES FROM
@@ -84,27 +87,43 @@ pub record Each-write-settles-once (start : State) (cs : List Call) (rs : List (
   pub settled : processorHistory (start .protected) [] cs rs ks ≡ take (total ks) (accepted (start .protected) cs rs)
   pub waiting : waits (start .protected) [] cs rs ks ≡ drop (total ks) (accepted (start .protected) cs rs)
 
--- THE PROMISE of a run of the calls on a board made on a port that was in the state start
+-- THE CALLS MADE
 
-pub record Never-an-old-digit (start : State) (cs : List Call) (rs : List (Result Answer Fault)) (end : Book) : Type 0 where
-  -- how many writes settled at each call: one list for all that follows
+-- One call of the board after another, with how many writes settled at each.
+pub data Calls-made {P : Type 0} (state : P → State) (does : P → Step → P → Type 0) (m : Mode) (p : P) : List Call → List (Result Answer Fault) → List ℕ → Mode → P → Type 0 where
+  none-made : Calls-made state does m p [] [] [] m p
+  one-more : {n o : Mode} {q u : P} {c : Call} {r : Result Answer Fault} {cs : List Call} {rs : List (Result Answer Fault)} {ks : List ℕ}
+      → Calls-made state does m p cs rs ks n q → (h : Called state does n q c r o u)
+      → Calls-made state does m p (cs ++ (c ∷ [])) (rs ++ (r ∷ [])) (ks ++ (h .count ∷ [])) o u
+
+-- THE PROMISE of a run of the calls on a board made on the port p, and left in mode m on the port q
+
+pub record Never-an-old-digit {P : Type 0} (state : P → State) (does : P → Step → P → Type 0) (p : P) (cs : List Call) (rs : List (Result Answer Fault)) (m : Mode) (q : P) : Type 0 where
+  -- the port once the board was made, and how many writes settled at each call: one list for all that follows
+  pub made : P
   pub counts : List ℕ
-  pub admitted : Admitted (first start) cs counts
-  pub answers-are-the-books : rs ≡ answers (first start) cs counts
-  pub ends-as-the-book : end ≡ after (first start) cs counts
-  pub reads-are-newest : Reads-are-newest start cs rs counts
-  pub alike-starts-answer-alike : Alike-starts-answer-alike start cs rs
-  pub locked-memory-is-the-locks : Locked-memory-is-the-locks start cs rs counts
-  pub each-write-settles-once : Each-write-settles-once start cs rs counts
+  pub drains : Drains state does p made
+  pub calls-made : Calls-made state does Free made cs rs counts m q
+  pub admitted : Admitted (first (state p)) cs counts
+  pub answers-are-the-books : rs ≡ answers (first (state p)) cs counts
+  pub ends-as-the-book : bookOf m (state q) ≡ after (first (state p)) cs counts
+  pub reads-are-newest : Reads-are-newest (state p) cs rs counts
+  pub alike-starts-answer-alike : Alike-starts-answer-alike (state p) cs rs
+  pub locked-memory-is-the-locks : Locked-memory-is-the-locks (state p) cs rs counts
+  pub each-write-settles-once : Each-write-settles-once (state p) cs rs counts
+
+-- Two runs of the same calls are heard alike if their ports began alike and no master's write was accepted.
+abbrev pub Heard-alike : State → State → List Call → List (Result Answer Fault) → List (Result Answer Fault) → Type 0
+Heard-alike s t cs rs qs = Alike s t → Quiet cs rs → allHeard cs rs ≡ allHeard cs qs
 
 -- WHAT KEEPS THE PROMISE FROM BEING EMPTY
 
 pub record The-book-is-sound : Type 0 where
   -- a byte has one source
   pub one-source : (lane : Lane) (a : ℕ) (waiting settled : List Entry) (content x y : ℕ)
-    → Comes lane a waiting settled content x → Comes lane a waiting settled content y → x ≡ y
+      → Comes lane a waiting settled content x → Comes lane a waiting settled content y → x ≡ y
   -- any calls have a run
   pub some-run : (b : Book) (cs : List Call) → (ks : List ℕ) × Admitted b cs ks
   -- a refused call changes nothing, but for what settles at a read of an unreadable word
   pub refusals-change-nothing : (b : Book) (c : Call) (k : ℕ) (fault : Fault) → Allowed b c k → answer b c ≡ Err fault
-    → (step b c k ≡ b) ⊎ ((fault .refusal ≡ Unreadable) × ((a : ℕ) × (c ≡ Read a)))
+      → (step b c k ≡ b) ⊎ ((fault .refusal ≡ Unreadable) × ((a : ℕ) × (c ≡ Read a)))

@@ -1,6 +1,7 @@
 //! The board: a port behind a lock and a grant, and the promise that it never shows an old digit.
 mod answer;
 mod board;
+mod whole;
 
 pub use answer::Answer;
 pub use answer::AnswerDebug;
@@ -11,3 +12,7 @@ pub use answer::ModePartialEq;
 pub use board::Board;
 pub use board::Grant;
 pub use board::Lock;
+pub use whole::NoMemory;
+pub use whole::Outcome;
+pub use whole::compare;
+pub use whole::run;
