@@ -2,7 +2,7 @@
 ghost use mathlib.Core.Path.{_≡_};
 ghost use mathlib.Core.List.{[], _∷_};
 ghost use Prim.Native.Nat.{ℕ, min, _+_};
-ghost use Rattle.std.specs.declared.option.Option.the-variants.{None, Some};
+ghost use Rattle.std.specs.declared.result.Result.the-variants.{Err};
 ghost use Rattle.calls.specs.declared.call.Call.the-variants.{Lock as Locks, LockedRead, LockedWrite, Unlock as Unlocks, Ask as Asks, MasterRead, MasterWrite, Give as Gives};
 ghost use Rattle.calls.specs.Calls.{cargoOf};
 ghost use Rattle.port.specs.Memory.{drained, posted};
@@ -139,16 +139,16 @@ impl<P: Port> Board<P> {
         port
     }
 
-    // The fault of a call that the mode turns down.
-    fn refuse(&self, refusal: Refusal, place: u32) -> Fault
+    // The answer to a call that the mode turns down.
+    fn refuse(&self, refusal: Refusal, place: u32) -> Result<Answer, Fault>
         requires { ⌜ P·Port .sound (now self .port) ⌝ }
-        ensures { λ r. ⌜ r ≡ record { refusal = refusal; place = place; floor = boardFloor (P·Port .state (now (self .entry) .port) .facts .floor) } ⌝ }
+        ensures { λ r. ⌜ r ≡ Err (record { refusal = refusal; place = place; floor = boardFloor (P·Port .state (now (self .entry) .port) .facts .floor) }) ⌝ }
     {
-        Fault {
+        Err(Fault {
             refusal,
             place,
             floor: self.floor(),
-        }
+        })
     }
 
     /// Makes a call without tokens. The mode and the call together decide what is done.
@@ -196,16 +196,16 @@ impl<P: Port> Board<P> {
                 self.port.flush();
                 Ok(Answer::Done)
             }
-            (Call::LockedRead(_) | Call::LockedWrite(_) | Call::Unlock, _) => Err(self.refuse(
+            (Call::LockedRead(_) | Call::LockedWrite(_) | Call::Unlock, _) => self.refuse(
                 Refusal::NotLocked,
                 place,
-            )),
-            (Call::MasterRead(_) | Call::MasterWrite(_) | Call::Give, _) => Err(self.refuse(
+            ),
+            (Call::MasterRead(_) | Call::MasterWrite(_) | Call::Give, _) => self.refuse(
                 Refusal::NotGranted,
                 place,
-            )),
-            (_, Mode::Locked) => Err(self.refuse(Refusal::Locked, place)),
-            _ => Err(self.refuse(Refusal::Granted, place)),
+            ),
+            (_, Mode::Locked) => self.refuse(Refusal::Locked, place),
+            _ => self.refuse(Refusal::Granted, place),
         }
     }
 

@@ -39,22 +39,13 @@ returns-in-Lock-Free g c =
     }
 
 pub returns-in-Advance-rest : need.returns-in-Advance-rest
-returns-in-Advance-rest g c = record {
-  sound = c .advance .ensures .sound;
-  called = known-as _ _ _ _ _ _ _ _ _ (c .in-Advance-rest .is-0) (advance-called _ _ _ _ _ (c .advance .ensures .after) (c .advance .ensures .did));
-}
+returns-in-Advance-rest g c = search (needs, advance-called)
 
 pub returns-in-Snoop-rest : need.returns-in-Snoop-rest
-returns-in-Snoop-rest g c = record {
-  sound = c .snoop .ensures .sound;
-  called = known-as _ _ _ _ _ _ _ _ _ (c .in-Snoop-rest .is-0) (snoop-called _ _ _ _ (c .in-Snoop-rest .word) _ _ _ (c .snoop .ensures .value) (c .done-in-Snoop-rest .ensures) (c .snoop .ensures .after) (c .snoop .ensures .did));
-}
+returns-in-Snoop-rest g c = search (needs, snoop-called)
 
 pub returns-in-Flush-rest : need.returns-in-Flush-rest
-returns-in-Flush-rest g c = record {
-  sound = c .flush .ensures .sound;
-  called = known-as _ _ _ _ _ _ _ _ _ (c .in-Flush-rest .is-0) (flush-called _ _ _ _ _ (c .flush .ensures .after) (c .flush .ensures .did));
-}
+returns-in-Flush-rest g c = search (needs, flush-called)
 
 pub returns-in-Unposted-Free : need.returns-in-Unposted-Free
 returns-in-Unposted-Free g c =
