@@ -7,36 +7,16 @@ use Rattle.board.proofs.Taking.{known-as, read-called, write-called, outside-c
 use Rattle.board.proofs.board.Board.call.Needs as need
 
 pub returns-in-Read-Free : need.returns-in-Read-Free
-returns-in-Read-Free g c =
-    let e : unlessLocked (c .args .self .now .mode) ≡ None = search needs in
-    record {
-      sound = c .read .ensures .sound;
-      called = known-as _ _ _ _ _ _ _ _ _ (c .in-Read-Free .is-0) (read-called _ _ _ _ (c .in-Read-Free .word) _ _ _ e (c .read .ensures .value) (c .worded .ensures) (c .read .ensures .after) (c .read .ensures .kept) (c .read .ensures .did));
-    }
+returns-in-Read-Free g c = search (needs, read-called)
 
 pub returns-in-Write-Free : need.returns-in-Write-Free
-returns-in-Write-Free g c =
-    let e : unlessLocked (c .args .self .now .mode) ≡ None = search needs in
-    record {
-      sound = c .write .ensures .sound;
-      called = known-as _ _ _ _ _ _ _ _ _ (c .in-Write-Free .is-0) (write-called _ _ _ _ (c .in-Write-Free .store) _ _ _ e (c .write .ensures .value) (c .done .ensures) (c .write .ensures .after) (c .write .ensures .did));
-    }
+returns-in-Write-Free g c = search (needs, write-called)
 
 pub returns-in-MasterWrite-Granted : need.returns-in-MasterWrite-Granted
-returns-in-MasterWrite-Granted g c =
-    let e : ifGranted (c .args .self .now .mode) ≡ None = search needs in
-    record {
-      sound = c .outside-write .ensures .sound;
-      called = known-as _ _ _ _ _ _ _ _ _ (c .in-MasterWrite-Granted .is-0) (outside-called _ _ _ _ (c .in-MasterWrite-Granted .store) _ _ _ e (c .outside-write .ensures .value) (c .done-in-MasterWrite-Granted .ensures) (c .outside-write .ensures .after) (c .outside-write .ensures .did));
-    }
+returns-in-MasterWrite-Granted g c = search (needs, outside-called)
 
 pub returns-in-Lock-Free : need.returns-in-Lock-Free
-returns-in-Lock-Free g c =
-    let e : ifFree (c .args .self .now .mode) ≡ None = search needs in
-    record {
-      sound = c .settle-all .ensures .sound;
-      called = known-as _ _ _ _ _ _ _ _ _ (c .in-Lock-Free .is-0) (lock-called _ _ _ _ _ e (c .settle-all .ensures .after) (c .settle-all .ensures .did));
-    }
+returns-in-Lock-Free g c = search (needs, lock-called)
 
 pub returns-in-Advance-rest : need.returns-in-Advance-rest
 returns-in-Advance-rest g c = search (needs, advance-called)
