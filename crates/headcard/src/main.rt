@@ -57,7 +57,12 @@ fn make_eprom(heap: Global) -> Result<Vec<u8>, AllocError> {
     Ok(bytes)
 }
 
-fn print_answer(rt: &LibcRuntime, number: u64, name: &str, answer: Result<Answer, Fault>) -> io::Result<()> {
+fn print_answer(
+    rt: &LibcRuntime,
+    number: u64,
+    name: &str,
+    answer: Result<Answer, Fault>,
+) -> io::Result<()> {
     match answer {
         Ok(Answer::Done) => println!(rt, "{number} {name} ok"),
         Ok(Answer::Word(value)) => println!(rt, "{number} {name} {value:04X}"),
@@ -65,12 +70,15 @@ fn print_answer(rt: &LibcRuntime, number: u64, name: &str, answer: Result<Answer
             let refusal = fault.refusal;
             let place = fault.place;
             let floor = fault.floor;
-            println!(rt, "{number} {name} refused {refusal} at {place} floor {floor}")
+            println!(
+                rt,
+                "{number} {name} refused {refusal} at {place} floor {floor}"
+            )
         }
     }
 }
 
-// Runs the calls on a board over the port, and prints each answer and how many writes wait in the end.
+// Runs the calls on a board over a port, and prints each answer and how many writes wait in the end.
 fn run_calls<P: Port + Drop>(rt: &LibcRuntime, port: P, calls: &[Call]) -> io::Result<()>
     requires { ⌜ P·Port .sound port ⌝ }
 {
@@ -86,17 +94,14 @@ fn run_calls<P: Port + Drop>(rt: &LibcRuntime, port: P, calls: &[Call]) -> io::R
     println!(rt, "waiting {waiting}")
 }
 
-fn main(rt: LibcRuntime) -> io::Result<()> {
-    let mut list = Vec::new(rt.alloc());
-    rt.stdin().take(INPUT_BYTES).read_to_end(&mut list)?;
-    let mut lines = make_ram(rt.alloc())?;
-    let bytes = make_eprom(rt.alloc())?;
-    let memory = JoinedMap::new(RamBank::new(&mut lines), EpromBank::new(&bytes));
-    let pile = WriteBuffer::new(memory);
-    let words = pile.words();
+// Piles the stages on the card's memory, and runs a list on them.
+fn run_list<P: Port + Drop>(rt: &LibcRuntime, memory: P, list: &[u8]) -> io::Result<()>
+    requires { ⌜ P·Port .sound memory ⌝ }
+{
+    let words = memory.words();
     println!(rt, "board {words} words")?;
-    match read_list(rt.alloc(), &list) {
-        Ok(calls) => run_calls(&rt, pile, &calls),
+    match read_list(rt.alloc(), list) {
+        Ok(calls) => run_calls(rt, WriteBuffer::new(memory), &calls),
         Err(ListError::Refused(fault)) => {
             let refusal = fault.refusal;
             let place = fault.place;
@@ -104,4 +109,13 @@ fn main(rt: LibcRuntime) -> io::Result<()> {
         }
         Err(ListError::Memory) => Err(AllocError.into()),
     }
+}
+
+fn main(rt: LibcRuntime) -> io::Result<()> {
+    let mut list = Vec::new(rt.alloc());
+    rt.stdin().take(INPUT_BYTES).read_to_end(&mut list)?;
+    let mut lines = make_ram(rt.alloc())?;
+    let bytes = make_eprom(rt.alloc())?;
+    let memory = JoinedMap::new(RamBank::new(&mut lines), EpromBank::new(&bytes));
+    run_list(&rt, memory, &list)
 }
