@@ -9,9 +9,9 @@ use Rattle.port.proofs.Settling.{none-waits}
 use Rattle.write_buffer.specs.Queues.{queued}
 use Rattle.write_buffer.specs.Buffering.{below, oldest, idle}
 use Rattle.write_buffer.proofs.Queueing.{popped-some, popped-none}
-use Rattle.write_buffer.proofs.Answering.{takes-kept, takes-line}
+use Rattle.write_buffer.proofs.Answering.{takes-line}
 use Rattle.write_buffer.proofs.Sending.{settles-facts, advances-below, advances-idle, advances-sent, same-queue}
-use Rattle.write_buffer.proofs.Passing.{sound-passed}
+use Rattle.write_buffer.proofs.Passing.{sound-passed, sound-sent}
 use Rattle.write_buffer.proofs.buffer.WriteBufferPort.advance.Needs as need
 
 pub returns-then-waiting-gt0 : need.returns-then-waiting-gt0
@@ -33,15 +33,10 @@ returns-in-Some g c =
     let s = g .P·Port .state (c .args .self .now .below) in
     let ws = queued (c .args .self .now .queue) in
     let vs = queued (c .pop .last .self) in
-    let t = g .P·Port .state (c .send-on .last .below) in
     let o = c .in-Some .oldest in
     let line = popped-some ws vs o (c .in-Some .ensures tt .value) (c .in-Some .ensures tt .after) in
     let none : s .waiting ≡ [] = none-waits (s .waiting) (omega arith) in
-    record {
-      did = search (needs, oldest);
-      sound = record { below = c .send-on .ensures .sound; taken = takes-kept (s .facts) (t .facts) vs (settles-facts _ t (c .send-on .ensures .after)) (takes-line (s .facts) _ _ line (c .pre .taken) .1) };
-      after = advances-sent s t ws vs o line (c .send-on .ensures .after) (c .send-on .ensures .fewer);
-    }
+    record { sound = search (needs, sound-sent); after = search (needs, advances-sent); did = search (needs, oldest) }
 
 pub returns-in-rest : need.returns-in-rest
 returns-in-rest g c =

@@ -13,8 +13,8 @@ returns g c =
     let w = writing (c .args .word) (c .args .lanes) (c .args .value) in
     let checked = passes-write s (c .args .word) (c .args .lanes) (c .words .result) (c .floor .result) (c .in-Continue-check-write .ensures tt) (c .words .ensures .value) (c .floor .ensures) in
     record {
+      did = search (needs, did-answered);
       sound = search (needs, sound-answered);
       value = search (needs, answer-passed);
       after = after-answered (outside w s) t (queued (c .args .self .now .queue)) (c .outside-write .result) _ _ _ (c .outside-write .ensures .value) (checked .1) (c .outside-write .ensures .after);
-      did = search (needs, did-answered);
     }
