@@ -10,7 +10,7 @@ ghost use Rattle.port.specs.Meaning.{marksAnswer, waitingAnswer, writeAnswer, B
 ghost use Rattle.port.specs.Steps.{Drains};
 ghost use Rattle.board.specs.declared.answer.Mode.the-variants.{Free};
 ghost use Rattle.board.specs.Tables.{boardFloor, placeIn, writeOf, faultOf};
-ghost use Rattle.board.specs.Calling.{asDone, asWord, Through, Called};
+ghost use Rattle.board.specs.Calling.{asDone, asWord, Through, Called, Cycled};
 use super::answer::Answer;
 use super::answer::Mode;
 use calls::Call;
@@ -295,5 +295,33 @@ impl<P: Port> Board<P> {
     {
         self.call(Call::MasterWrite(store))?;
         Ok(())
+    }
+
+    /// Reads a word under a lock of its own, which is given back whatever the read answers.
+    pub fn locked_cycle(&mut self, word: u32) -> Result<u16, Fault>
+        requires { ⌜ P·Port .sound (now self .port) ⌝ }
+        ensures sound { λ _. ⌜ P·Port .sound (now (self .exit) .port) ⌝ }
+        ensures mode { λ _. ⌜ now (self .exit) .mode ≡ now (self .entry) .mode ⌝ }
+        ensures cycled { λ r. ⌜ (now (self .entry) .mode ≡ Free → Cycled (P·Port .state) (P·Port .does) (now (self .entry) .mode) (now (self .entry) .port) Locks (LockedRead word) Unlocks (asWord r) (now (self .exit) .mode) (now (self .exit) .port)) ⌝ }
+        ensures refused { λ r. ⌜ ((now (self .entry) .mode ≡ Free → ⊥) → Called (P·Port .state) (P·Port .does) (now (self .entry) .mode) (now (self .entry) .port) Locks (asWord r) (now (self .exit) .mode) (now (self .exit) .port)) ⌝ }
+    {
+        let lock = self.lock()?;
+        let value = self.locked_read(&lock, word);
+        self.unlock(lock)?;
+        value
+    }
+
+    /// Reads a word under a grant of its own, which is given back whatever the read answers.
+    pub fn master_cycle(&mut self, word: u32) -> Result<u16, Fault>
+        requires { ⌜ P·Port .sound (now self .port) ⌝ }
+        ensures sound { λ _. ⌜ P·Port .sound (now (self .exit) .port) ⌝ }
+        ensures mode { λ _. ⌜ now (self .exit) .mode ≡ now (self .entry) .mode ⌝ }
+        ensures cycled { λ r. ⌜ (now (self .entry) .mode ≡ Free → Cycled (P·Port .state) (P·Port .does) (now (self .entry) .mode) (now (self .entry) .port) Asks (MasterRead word) Gives (asWord r) (now (self .exit) .mode) (now (self .exit) .port)) ⌝ }
+        ensures refused { λ r. ⌜ ((now (self .entry) .mode ≡ Free → ⊥) → Called (P·Port .state) (P·Port .does) (now (self .entry) .mode) (now (self .entry) .port) Asks (asWord r) (now (self .exit) .mode) (now (self .exit) .port)) ⌝ }
+    {
+        let grant = self.ask()?;
+        let value = self.master_read(&grant, word);
+        self.give(grant)?;
+        value
     }
 }
