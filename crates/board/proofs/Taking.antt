@@ -1,9 +1,8 @@
 -- The port's promises, as one call of the board.
-use mathlib.Core.Path.{_≡_, refl, sym, ap, ap₂, subst, _∙_}
+use mathlib.Core.Path.{_≡_, refl, sym, ap, subst, _∙_}
 use mathlib.Core.Bool.{Bool, true, false, cond}
-use mathlib.Core.List.{List, [], _∷_, _++_, append-nil}
-use mathlib.Core.Logic.{_⊎_, inl, inr}
-use Prim.Native.Nat.{ℕ, _+_, _<_, _≤_}
+use mathlib.Core.List.{[], _∷_, _++_, append-nil}
+use Prim.Native.Nat.{ℕ}
 use native.Mathlib.Omega.{arith}
 use lib.Dec.{ltb}
 use lib.ListN.{length}
@@ -15,22 +14,21 @@ use Rattle.fault.specs.declared.Fault.{Fault}
 use Rattle.fault.specs.declared.Refusal.{Refusal}
 use Rattle.fault.specs.declared.Refusal.the-variants.{PastEnd, BadLanes, Unreadable, Locked as IsLocked, Granted as IsGranted, NotLocked, NotGranted, UnfitSize, ListLength, ListWord}
 use Rattle.calls.specs.declared.call.Call.{Call}
-use Rattle.calls.specs.declared.call.Call.the-variants.{Read, Write as Post, Unposted, Advance, Lock, LockedRead, LockedWrite, Unlock, Ask, MasterRead, MasterWrite, Give, Snoop, Flush}
+use Rattle.calls.specs.declared.call.Call.the-variants.{Read, Write as Post, Advance, Lock, MasterWrite, Snoop, Flush}
 use Rattle.calls.specs.declared.call.Cargo.{Cargo}
-use Rattle.calls.specs.declared.call.Cargo.the-variants.{Nothing, Word as OfWord, Store as OfStore}
+use Rattle.calls.specs.declared.call.Cargo.the-variants.{Store as OfStore}
 use Rattle.calls.specs.declared.call.Store.{Store}
 use Rattle.calls.specs.Calls.{cargoOf}
-use Rattle.port.specs.declared.Write.{Write}
 use Rattle.port.specs.Memory.{State, seen, posted, drained, outside}
 use Rattle.port.specs.Meaning.{within, laned, unreadable, pastEnd, badLanes, thenOk, readAnswer, writeAnswer, snoopAnswer, Settles, Advances, ByAnswer, KeptAt, Kept as PortKept}
-use Rattle.port.specs.Steps.{Step, reads, writes, advances, outsides, snoops, flushes, Chain, done, then, Drains}
+use Rattle.port.specs.Steps.{Step, reads, writes, advances, outsides, snoops, flushes, done, then, Drains}
 use Rattle.board.specs.declared.answer.Mode.{Mode}
-use Rattle.board.specs.declared.answer.Mode.the-variants.{Free, Locked, Granted}
+use Rattle.board.specs.declared.answer.Mode.the-variants.{Locked}
 use Rattle.board.specs.declared.answer.Answer.{Answer}
 use Rattle.board.specs.declared.answer.Answer.the-variants.{Done, Word}
-use Rattle.board.specs.Tables.{stop, fits, inRange, orElse, refusal, placeIn, floorFor, faultOf, ifTaken, posts, mastersWrites, goesTo, none, all, settlesBy, writeOf}
-use Rattle.board.specs.Book.{Book, bookOf, refused, settle, mastered, step, Admits, Allowed, says, unless, told, answer}
-use Rattle.board.specs.Calling.{asDone, asWord, Through, Makes, Reaches, Kept, Called}
+use Rattle.board.specs.Tables.{stop, fits, inRange, orElse, refusal, placeIn, faultOf, ifTaken, posts, mastersWrites, goesTo, none, all, settlesBy, writeOf}
+use Rattle.board.specs.Book.{Book, bookOf, settle, mastered, Admits, says, unless, told}
+use Rattle.board.specs.Calling.{asDone, asWord, Makes, Reaches, Kept, Called}
 use Rattle.board.proofs.Counts.{posted-none, settle-none, settle-all, counted, Landed, advanced}
 
 -- The book's step and rule, at a refusal that is still to be told.

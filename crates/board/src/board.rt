@@ -1,7 +1,6 @@
 //! The board and its calls.
 ghost use mathlib.Core.Path.{_≡_};
 ghost use mathlib.Core.List.{[], _∷_};
-ghost use Prim.Native.Nat.{ℕ, min, _+_};
 ghost use Rattle.std.specs.declared.result.Result.the-variants.{Err};
 ghost use Rattle.calls.specs.declared.call.Call.the-variants.{Lock as Locks, LockedRead, LockedWrite, Unlock as Unlocks, Ask as Asks, MasterRead, MasterWrite, Give as Gives};
 ghost use Rattle.calls.specs.Calls.{cargoOf};
@@ -9,7 +8,7 @@ ghost use Rattle.port.specs.Memory.{drained, posted};
 ghost use Rattle.port.specs.Meaning.{marksAnswer, waitingAnswer, writeAnswer, ByAnswer};
 ghost use Rattle.port.specs.Steps.{Drains};
 ghost use Rattle.board.specs.declared.answer.Mode.the-variants.{Free};
-ghost use Rattle.board.specs.Tables.{boardFloor, placeIn, writeOf, faultOf};
+ghost use Rattle.board.specs.Tables.{boardFloor, placeIn, writeOf};
 ghost use Rattle.board.specs.Calling.{asDone, asWord, Through, Called, Cycled};
 use super::answer::Answer;
 use super::answer::Mode;

@@ -2,7 +2,7 @@ use mathlib.Core.Path.{_≡_, refl}
 use borrow.Author.Needs.{needs}
 use Rattle.std.specs.declared.option.Option.the-variants.{None}
 use Rattle.calls.specs.declared.call.Call.the-variants.{Unposted, LockedWrite}
-use Rattle.board.specs.Tables.{unlessLocked, ifLocked, ifGranted, ifFree}
+use Rattle.board.specs.Tables.{unlessLocked, ifLocked}
 use Rattle.board.proofs.Taking.{known-as, read-called, write-called, outside-called, store-called, landed-all, lock-called, advance-called, snoop-called, flush-called}
 use Rattle.board.proofs.board.Board.call.Needs as need
 
