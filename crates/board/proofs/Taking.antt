@@ -14,7 +14,7 @@ use Rattle.fault.specs.declared.Fault.{Fault}
 use Rattle.fault.specs.declared.Refusal.{Refusal}
 use Rattle.fault.specs.declared.Refusal.the-variants.{PastEnd, BadLanes, Unreadable, Locked as IsLocked, Granted as IsGranted, NotLocked, NotGranted, UnfitSize, ListLength, ListWord}
 use Rattle.calls.specs.declared.call.Call.{Call}
-use Rattle.calls.specs.declared.call.Call.the-variants.{Read, Write as Post, Advance, Lock, MasterWrite, Snoop, Flush}
+use Rattle.calls.specs.declared.call.Call.the-variants.{Read, Write as Post, Advance, Lock, MasterWrite, Snoop, Flush, Unposted, LockedWrite}
 use Rattle.calls.specs.declared.call.Cargo.{Cargo}
 use Rattle.calls.specs.declared.call.Cargo.the-variants.{Store as OfStore}
 use Rattle.calls.specs.declared.call.Store.{Store}
@@ -28,7 +28,7 @@ use Rattle.board.specs.declared.answer.Answer.{Answer}
 use Rattle.board.specs.declared.answer.Answer.the-variants.{Done, Word}
 use Rattle.board.specs.Tables.{stop, fits, inRange, orElse, refusal, placeIn, faultOf, ifTaken, posts, mastersWrites, goesTo, none, all, settlesBy, writeOf}
 use Rattle.board.specs.Book.{Book, bookOf, settle, mastered, Admits, says, unless, told}
-use Rattle.board.specs.Calling.{asDone, asWord, Makes, Reaches, Kept, Called}
+use Rattle.board.specs.Calling.{asDone, asWord, Through, Makes, Reaches, Kept, Called}
 use Rattle.board.proofs.Counts.{posted-none, settle-none, settle-all, counted, Landed, advanced}
 
 -- The book's step and rule, at a refusal that is still to be told.
@@ -212,6 +212,20 @@ outside-called state does m p s r x q e a b l d =
 pub landed-all : (c : Call) (s t : State) → settlesBy c ≡ all → t ≡ drained (posted (posts c) (mastered (mastersWrites c) s)) → Landed c s t
 landed-all c s t e h =
     record { count = length (s .waiting ++ posts c); admitted = rw e refl; left = h ∙ settle-all (posted (posts c) (mastered (mastersWrites c) s)) }
+
+pub unposted-called : {P : Type 0} (state : P → State) (does : P → Step → P → Type 0) (m : Mode) (p : P) (s : Store) (r : Result (Unit {0}) Fault) (x : Result Answer Fault) (q : P)
+    → stop m (Unposted s) ≡ None → r ≡ writeAnswer (state p) (writeOf s) → x ≡ asDone r
+    → ByAnswer r (state q ≡ drained (posted (writeOf s ∷ []) (state p))) (q ≡ p) → Through state does (writeOf s) p q
+    → Called state does m p (Unposted s) x m q
+unposted-called state does m p s r x q e a b l d =
+    store-called state does m p (Unposted s) s r x q (state q ≡ drained (posted (writeOf s ∷ []) (state p))) refl refl e refl a b (landed-all (Unposted s) (state p) (state q) refl) l d
+
+pub locked-called : {P : Type 0} (state : P → State) (does : P → Step → P → Type 0) (m : Mode) (p : P) (s : Store) (r : Result (Unit {0}) Fault) (x : Result Answer Fault) (q : P)
+    → stop m (LockedWrite s) ≡ None → r ≡ writeAnswer (state p) (writeOf s) → x ≡ asDone r
+    → ByAnswer r (state q ≡ drained (posted (writeOf s ∷ []) (state p))) (q ≡ p) → Through state does (writeOf s) p q
+    → Called state does m p (LockedWrite s) x m q
+locked-called state does m p s r x q e a b l d =
+    store-called state does m p (LockedWrite s) s r x q (state q ≡ drained (posted (writeOf s ∷ []) (state p))) refl refl e refl a b (landed-all (LockedWrite s) (state p) (state q) refl) l d
 
 pub lock-called : {P : Type 0} (state : P → State) (does : P → Step → P → Type 0) (m : Mode) (p q : P)
     → stop m Lock ≡ None → state q ≡ drained (state p) → Drains state does p q
