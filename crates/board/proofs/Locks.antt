@@ -16,9 +16,9 @@ use Rattle.port.specs.declared.Write.{Write}
 use Rattle.port.specs.Memory.{applied}
 use Rattle.port.proofs.Settling.{applied-append}
 use Rattle.board.specs.declared.answer.Mode.{Mode}
-use Rattle.board.specs.declared.answer.Mode.the-variants.{Free, Locked, Granted}
+use Rattle.board.specs.declared.answer.Mode.the-variants.{Locked}
 use Rattle.board.specs.Tables.{unlessLocked, orElse, fits, refusal, ifTaken, posts, mastersWrites, goesTo, settlesBy, Rule, none, all}
-use Rattle.board.specs.Book.{Book, refused, joins, masters, line, step, rule, Admits, Allowed, answer}
+use Rattle.board.specs.Book.{Book, refused, joins, line, step, rule, Admits, Allowed, answer}
 use Rattle.board.specs.Runs.{after, answers, Admitted, ifOk, locksWrites, lockedWrites, Held}
 use Rattle.board.proofs.Records.{took-locks}
 

@@ -1,12 +1,12 @@
 -- The record of a run says what the book does.
-use mathlib.Core.Path.{_≡_, refl, sym, ap, ap₂, subst, _∙_}
-use mathlib.Core.Bool.{Bool, true, false, cond}
+use mathlib.Core.Path.{_≡_, refl, sym, ap, _∙_}
+use mathlib.Core.Bool.{Bool}
 use mathlib.Core.List.{List, [], _∷_, _++_, append-assoc, append-nil}
 use mathlib.Core.Logic.{_⊎_, inl, inr}
-use Prim.Native.Nat.{ℕ, zero, suc, _+_, _≤_}
+use Prim.Native.Nat.{ℕ, zero, suc, _≤_}
 use native.Mathlib.Omega.{arith}
 use lib.ListN.{length, take, drop, getD, take-append-drop, length-take, length-append}
-use lib.Seq.{take-at, drop-at, take-nil, drop-nil}
+use lib.Seq.{take-at, drop-at}
 use Rattle.std.specs.declared.option.Option.{Option}
 use Rattle.std.specs.declared.option.Option.the-variants.{Some, None}
 use Rattle.std.specs.declared.result.Result.{Result}
@@ -19,7 +19,7 @@ use Rattle.port.specs.declared.Write.{Write}
 use Rattle.port.specs.Memory.{State, applied}
 use Rattle.port.proofs.Settling.{applied-append}
 use Rattle.board.specs.declared.answer.Answer.{Answer}
-use Rattle.board.specs.declared.answer.Answer.the-variants.{Done, Word}
+use Rattle.board.specs.declared.answer.Answer.the-variants.{Done}
 use Rattle.board.specs.Tables.{ifTaken, posts, mastersWrites, Rule, none, some, one-or-more, all}
 use Rattle.board.specs.Book.{Book, refused, joins, masters, line, step, rule, Admits, says, unless, told, answer}
 use Rattle.board.specs.Runs.{after, answers, Admitted, ifOk, Entry, entryOf, marked, lined, waits, history, processorHistory, accepted, total, locksWrites}

@@ -1,7 +1,7 @@
 -- A run of a board keeps the promise.
 use mathlib.Core.Path.{_≡_, refl, sym, ap, ap₂, subst, subst₂, _∙_}
 use mathlib.Core.Bool.{Bool, true, false, cond}
-use mathlib.Core.List.{List, [], _∷_, _++_, append-nil}
+use mathlib.Core.List.{List, [], _∷_, _++_}
 use mathlib.Core.Logic.{_⊎_, inl, inr}
 use Prim.Native.Nat.{ℕ, _+_, _<_, _≤_}
 use native.Mathlib.Omega.{arith}
@@ -17,7 +17,6 @@ use Rattle.fault.specs.declared.Refusal.{Refusal}
 use Rattle.fault.specs.declared.Refusal.the-variants.{Unreadable}
 use Rattle.calls.specs.declared.call.Call.{Call}
 use Rattle.calls.specs.declared.call.Call.the-variants.{Read, Write as Post, Unposted, Advance, Lock, LockedRead, LockedWrite, Unlock, Ask, MasterRead, MasterWrite, Give, Snoop, Flush}
-use Rattle.calls.specs.Calls.{cargoOf}
 use Rattle.port.specs.declared.Write.{Write}
 use Rattle.port.specs.Lanes.{Lane, byte}
 use Rattle.port.specs.Memory.{Memory, State, seen, applied, posted, drained}
@@ -29,8 +28,8 @@ use Rattle.board.specs.declared.answer.Answer.the-variants.{Done, Word}
 use Rattle.board.specs.Tables.{ifLocked, inRange, ifTaken, posts, mastersWrites, goesTo, settlesBy, Rule, none, some, one-or-more, all}
 use Rattle.board.specs.Book.{Book, bookOf, first, refused, joins, masters, mastered, line, settle, step, rule, Admits, Allowed, says, unless, told, answer}
 use Rattle.board.specs.Calling.{Called}
-use Rattle.board.specs.Runs.{after, answers, Admitted, Entry, marked, waits, history, lockedWrites, Held, Quiet, allHeard}
-use Rattle.board.specs.Promise.{Comes, Reads-are-newest, Alike, Alike-starts-answer-alike, Locked-memory-is-the-locks, Each-write-settles-once, Calls-made, none-made, one-more, Never-an-old-digit, Heard-alike, The-book-is-sound}
+use Rattle.board.specs.Runs.{after, answers, Admitted, Entry, waits, history, lockedWrites, Quiet, allHeard}
+use Rattle.board.specs.Promise.{Comes, Reads-are-newest, Locked-memory-is-the-locks, Each-write-settles-once, Calls-made, none-made, one-more, Never-an-old-digit, Heard-alike, The-book-is-sound}
 use Rattle.board.proofs.Counts.{settle-none}
 use Rattle.board.proofs.Bytes.{comes, one-source}
 use Rattle.board.proofs.Records.{settledBy, settled-run, protected-run, history-is, waits-is, once-settled, front, back, take-answers, drop-answers, answer-at}

@@ -1,22 +1,20 @@
 -- Two boards that begin alike are heard alike.
-use mathlib.Core.Path.{_≡_, refl, sym, ap, ap₂, subst, _∙_}
+use mathlib.Core.Path.{_≡_, refl, sym, ap, ap₂, _∙_}
 use mathlib.Core.Bool.{Bool, true, false, cond}
-use mathlib.Core.List.{List, [], _∷_, _++_}
+use mathlib.Core.List.{List, [], _∷_}
 use Prim.Native.Nat.{ℕ, _<_}
 use native.Mathlib.Omega.{arith}
 use borrow.Author.Tests.{ltb-true}
 use lib.Dec.{ltb, eqb}
-use lib.ListN.{length, take, drop, take-append-drop}
+use lib.ListN.{take, drop, take-append-drop}
 use Rattle.std.specs.declared.option.Option.{Option}
 use Rattle.std.specs.declared.option.Option.the-variants.{Some, None}
 use Rattle.std.specs.declared.result.Result.{Result}
 use Rattle.std.specs.declared.result.Result.the-variants.{Ok, Err}
-use Rattle.fault.specs.declared.Fault.{Fault}
 use Rattle.fault.specs.declared.Refusal.{Refusal}
 use Rattle.fault.specs.declared.Refusal.the-variants.{PastEnd, Unreadable}
 use Rattle.calls.specs.declared.call.Call.{Call}
 use Rattle.calls.specs.declared.call.Call.the-variants.{Read, Write as Post, Unposted, Advance, Lock, LockedRead, LockedWrite, Unlock, Ask, MasterRead, MasterWrite, Give, Snoop, Flush}
-use Rattle.calls.specs.Calls.{cargoOf}
 use Rattle.port.specs.declared.Write.{Write}
 use Rattle.port.specs.Lanes.{joined}
 use Rattle.port.specs.Memory.{Memory, State, lineOf, stored, applied, seen}
@@ -24,10 +22,10 @@ use Rattle.port.proofs.Settling.{applied-append}
 use Rattle.board.specs.declared.answer.Mode.{Mode}
 use Rattle.board.specs.declared.answer.Mode.the-variants.{Free, Locked, Granted}
 use Rattle.board.specs.declared.answer.Answer.{Answer}
-use Rattle.board.specs.declared.answer.Answer.the-variants.{Done, Word}
-use Rattle.board.specs.Tables.{stop, inRange, orElse, fits, refusal, ifTaken, ifLocked, posts, mastersWrites, goesTo}
+use Rattle.board.specs.declared.answer.Answer.the-variants.{Word}
+use Rattle.board.specs.Tables.{stop, inRange, orElse, refusal, ifTaken, ifLocked, posts, mastersWrites, goesTo}
 use Rattle.board.specs.Book.{Book, first, refused, joins, masters, line, step, Allowed, reading, says, unless, told, answer}
-use Rattle.board.specs.Runs.{answers, Admitted, ifOk, Quiet, Turned, heard, allHeard}
+use Rattle.board.specs.Runs.{answers, Admitted, Quiet, Turned, heard, allHeard}
 use Rattle.board.specs.Promise.{Alike}
 use Rattle.board.proofs.Locks.{Calm, calm-step}
 use Rattle.board.proofs.Records.{took-masters}

@@ -1,9 +1,8 @@
 -- The port's promises, as one call of the board.
-use mathlib.Core.Path.{_≡_, refl, sym, ap, ap₂, subst, _∙_}
+use mathlib.Core.Path.{_≡_, refl, sym, ap, subst, _∙_}
 use mathlib.Core.Bool.{Bool, true, false, cond}
-use mathlib.Core.List.{List, [], _∷_, _++_, append-nil}
-use mathlib.Core.Logic.{_⊎_, inl, inr}
-use Prim.Native.Nat.{ℕ, _+_, _<_, _≤_}
+use mathlib.Core.List.{[], _∷_, _++_, append-nil}
+use Prim.Native.Nat.{ℕ}
 use native.Mathlib.Omega.{arith}
 use lib.Dec.{ltb}
 use lib.ListN.{length}
@@ -15,21 +14,20 @@ use Rattle.fault.specs.declared.Fault.{Fault}
 use Rattle.fault.specs.declared.Refusal.{Refusal}
 use Rattle.fault.specs.declared.Refusal.the-variants.{PastEnd, BadLanes, Unreadable, Locked as IsLocked, Granted as IsGranted, NotLocked, NotGranted, UnfitSize, ListLength, ListWord}
 use Rattle.calls.specs.declared.call.Call.{Call}
-use Rattle.calls.specs.declared.call.Call.the-variants.{Read, Write as Post, Unposted, Advance, Lock, LockedRead, LockedWrite, Unlock, Ask, MasterRead, MasterWrite, Give, Snoop, Flush}
+use Rattle.calls.specs.declared.call.Call.the-variants.{Read, Write as Post, Advance, Lock, MasterWrite, Snoop, Flush, Unposted, LockedWrite}
 use Rattle.calls.specs.declared.call.Cargo.{Cargo}
-use Rattle.calls.specs.declared.call.Cargo.the-variants.{Nothing, Word as OfWord, Store as OfStore}
+use Rattle.calls.specs.declared.call.Cargo.the-variants.{Store as OfStore}
 use Rattle.calls.specs.declared.call.Store.{Store}
 use Rattle.calls.specs.Calls.{cargoOf}
-use Rattle.port.specs.declared.Write.{Write}
 use Rattle.port.specs.Memory.{State, seen, posted, drained, outside}
 use Rattle.port.specs.Meaning.{within, laned, unreadable, pastEnd, badLanes, thenOk, readAnswer, writeAnswer, snoopAnswer, Settles, Advances, ByAnswer, KeptAt, Kept as PortKept}
-use Rattle.port.specs.Steps.{Step, reads, writes, advances, outsides, snoops, flushes, Chain, done, then, Drains}
+use Rattle.port.specs.Steps.{Step, reads, writes, advances, outsides, snoops, flushes, done, then, Drains}
 use Rattle.board.specs.declared.answer.Mode.{Mode}
-use Rattle.board.specs.declared.answer.Mode.the-variants.{Free, Locked, Granted}
+use Rattle.board.specs.declared.answer.Mode.the-variants.{Locked}
 use Rattle.board.specs.declared.answer.Answer.{Answer}
 use Rattle.board.specs.declared.answer.Answer.the-variants.{Done, Word}
-use Rattle.board.specs.Tables.{stop, fits, inRange, orElse, refusal, placeIn, floorFor, faultOf, ifTaken, posts, mastersWrites, goesTo, none, all, settlesBy, writeOf}
-use Rattle.board.specs.Book.{Book, bookOf, refused, settle, mastered, step, Admits, Allowed, says, unless, told, answer}
+use Rattle.board.specs.Tables.{stop, fits, inRange, orElse, refusal, placeIn, faultOf, ifTaken, posts, mastersWrites, goesTo, none, all, settlesBy, writeOf}
+use Rattle.board.specs.Book.{Book, bookOf, settle, mastered, Admits, says, unless, told}
 use Rattle.board.specs.Calling.{asDone, asWord, Through, Makes, Reaches, Kept, Called}
 use Rattle.board.proofs.Counts.{posted-none, settle-none, settle-all, counted, Landed, advanced}
 
@@ -214,6 +212,20 @@ outside-called state does m p s r x q e a b l d =
 pub landed-all : (c : Call) (s t : State) → settlesBy c ≡ all → t ≡ drained (posted (posts c) (mastered (mastersWrites c) s)) → Landed c s t
 landed-all c s t e h =
     record { count = length (s .waiting ++ posts c); admitted = rw e refl; left = h ∙ settle-all (posted (posts c) (mastered (mastersWrites c) s)) }
+
+pub unposted-called : {P : Type 0} (state : P → State) (does : P → Step → P → Type 0) (m : Mode) (p : P) (s : Store) (r : Result (Unit {0}) Fault) (x : Result Answer Fault) (q : P)
+    → stop m (Unposted s) ≡ None → r ≡ writeAnswer (state p) (writeOf s) → x ≡ asDone r
+    → ByAnswer r (state q ≡ drained (posted (writeOf s ∷ []) (state p))) (q ≡ p) → Through state does (writeOf s) p q
+    → Called state does m p (Unposted s) x m q
+unposted-called state does m p s r x q e a b l d =
+    store-called state does m p (Unposted s) s r x q (state q ≡ drained (posted (writeOf s ∷ []) (state p))) refl refl e refl a b (landed-all (Unposted s) (state p) (state q) refl) l d
+
+pub locked-called : {P : Type 0} (state : P → State) (does : P → Step → P → Type 0) (m : Mode) (p : P) (s : Store) (r : Result (Unit {0}) Fault) (x : Result Answer Fault) (q : P)
+    → stop m (LockedWrite s) ≡ None → r ≡ writeAnswer (state p) (writeOf s) → x ≡ asDone r
+    → ByAnswer r (state q ≡ drained (posted (writeOf s ∷ []) (state p))) (q ≡ p) → Through state does (writeOf s) p q
+    → Called state does m p (LockedWrite s) x m q
+locked-called state does m p s r x q e a b l d =
+    store-called state does m p (LockedWrite s) s r x q (state q ≡ drained (posted (writeOf s ∷ []) (state p))) refl refl e refl a b (landed-all (LockedWrite s) (state p) (state q) refl) l d
 
 pub lock-called : {P : Type 0} (state : P → State) (does : P → Step → P → Type 0) (m : Mode) (p q : P)
     → stop m Lock ≡ None → state q ≡ drained (state p) → Drains state does p q

@@ -1,7 +1,7 @@
 -- The board's book: what each call answers and leaves, once it is said how many writes settle at it.
 use mathlib.Core.Path.{_≡_}
 use mathlib.Core.Bool.{cond}
-use mathlib.Core.List.{List, [], _∷_, _++_}
+use mathlib.Core.List.{List, [], _++_}
 use Prim.Native.Nat.{ℕ, _<_, _≤_}
 use lib.ListN.{length, take, drop}
 use Rattle.std.specs.declared.option.Option.{Option}

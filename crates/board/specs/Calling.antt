@@ -1,6 +1,6 @@
 -- What one call of a board does: by the book, and by which calls of its port.
 use mathlib.Core.Path.{_≡_}
-use mathlib.Core.List.{List, [], _∷_}
+use mathlib.Core.List.{[], _∷_}
 use Prim.Native.Nat.{ℕ}
 use Rattle.std.specs.declared.option.Option.{Option}
 use Rattle.std.specs.declared.option.Option.the-variants.{Some, None}
@@ -71,3 +71,13 @@ pub record Called {P : Type 0} (state : P → State) (does : P → Step → P �
   pub left : bookOf n (state q) ≡ step (bookOf m (state p)) c count
   pub made : Reaches (stop m c) (Makes state does c p q) (q ≡ p)
   pub kept : Kept r p q
+
+-- Three calls, one after another: the first hands out a token, the second uses it and gives the answer, the third spends it.
+pub record Cycled {P : Type 0} (state : P → State) (does : P → Step → P → Type 0) (m : Mode) (p : P) (open-call use-call close-call : Call) (r : Result Answer Fault) (n : Mode) (q : P) : Type 0 where
+  pub mode-open : Mode
+  pub port-open : P
+  pub opened : Called state does m p open-call (Ok Done) mode-open port-open
+  pub mode-used : Mode
+  pub port-used : P
+  pub used : Called state does mode-open port-open use-call r mode-used port-used
+  pub closed : Called state does mode-used port-used close-call (Ok Done) n q

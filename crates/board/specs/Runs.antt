@@ -14,7 +14,7 @@ use Rattle.port.specs.declared.Write.{Write}
 use Rattle.port.specs.Memory.{lineOf}
 use Rattle.board.specs.declared.answer.Mode.the-variants.{Locked}
 use Rattle.board.specs.declared.answer.Answer.{Answer}
-use Rattle.board.specs.declared.answer.Answer.the-variants.{Done, Word}
+use Rattle.board.specs.declared.answer.Answer.the-variants.{Done}
 use Rattle.board.specs.Tables.{posts, mastersWrites, writeOf}
 use Rattle.board.specs.Book.{Book, step, answer, Allowed}
 

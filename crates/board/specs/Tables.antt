@@ -15,7 +15,6 @@ use Rattle.calls.specs.declared.call.Cargo.the-variants.{Nothing, Word as OfWor
 use Rattle.calls.specs.declared.call.Store.{Store}
 use Rattle.calls.specs.Calls.{cargoOf}
 use Rattle.port.specs.declared.Write.{Write}
-use Rattle.port.specs.Memory.{Facts}
 use Rattle.port.specs.Meaning.{laned, writing}
 use Rattle.board.specs.declared.answer.Mode.{Mode}
 use Rattle.board.specs.declared.answer.Mode.the-variants.{Free, Locked, Granted}

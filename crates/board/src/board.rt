@@ -1,7 +1,6 @@
 //! The board and its calls.
 ghost use mathlib.Core.Path.{_≡_};
 ghost use mathlib.Core.List.{[], _∷_};
-ghost use Prim.Native.Nat.{ℕ, min, _+_};
 ghost use Rattle.std.specs.declared.result.Result.the-variants.{Err};
 ghost use Rattle.calls.specs.declared.call.Call.the-variants.{Lock as Locks, LockedRead, LockedWrite, Unlock as Unlocks, Ask as Asks, MasterRead, MasterWrite, Give as Gives};
 ghost use Rattle.calls.specs.Calls.{cargoOf};
@@ -9,8 +8,8 @@ ghost use Rattle.port.specs.Memory.{drained, posted};
 ghost use Rattle.port.specs.Meaning.{marksAnswer, waitingAnswer, writeAnswer, ByAnswer};
 ghost use Rattle.port.specs.Steps.{Drains};
 ghost use Rattle.board.specs.declared.answer.Mode.the-variants.{Free};
-ghost use Rattle.board.specs.Tables.{boardFloor, placeIn, writeOf, faultOf};
-ghost use Rattle.board.specs.Calling.{asDone, asWord, Through, Called};
+ghost use Rattle.board.specs.Tables.{boardFloor, placeIn, writeOf};
+ghost use Rattle.board.specs.Calling.{asDone, asWord, Through, Called, Cycled};
 use super::answer::Answer;
 use super::answer::Mode;
 use calls::Call;
@@ -295,5 +294,33 @@ impl<P: Port> Board<P> {
     {
         self.call(Call::MasterWrite(store))?;
         Ok(())
+    }
+
+    /// Reads a word under a lock of its own, which is given back whatever the read answers.
+    pub fn locked_cycle(&mut self, word: u32) -> Result<u16, Fault>
+        requires { ⌜ P·Port .sound (now self .port) ⌝ }
+        ensures sound { λ _. ⌜ P·Port .sound (now (self .exit) .port) ⌝ }
+        ensures mode { λ _. ⌜ now (self .exit) .mode ≡ now (self .entry) .mode ⌝ }
+        ensures cycled { λ r. ⌜ (now (self .entry) .mode ≡ Free → Cycled (P·Port .state) (P·Port .does) (now (self .entry) .mode) (now (self .entry) .port) Locks (LockedRead word) Unlocks (asWord r) (now (self .exit) .mode) (now (self .exit) .port)) ⌝ }
+        ensures refused { λ r. ⌜ ((now (self .entry) .mode ≡ Free → ⊥) → Called (P·Port .state) (P·Port .does) (now (self .entry) .mode) (now (self .entry) .port) Locks (asWord r) (now (self .exit) .mode) (now (self .exit) .port)) ⌝ }
+    {
+        let lock = self.lock()?;
+        let value = self.locked_read(&lock, word);
+        self.unlock(lock)?;
+        value
+    }
+
+    /// Reads a word under a grant of its own, which is given back whatever the read answers.
+    pub fn master_cycle(&mut self, word: u32) -> Result<u16, Fault>
+        requires { ⌜ P·Port .sound (now self .port) ⌝ }
+        ensures sound { λ _. ⌜ P·Port .sound (now (self .exit) .port) ⌝ }
+        ensures mode { λ _. ⌜ now (self .exit) .mode ≡ now (self .entry) .mode ⌝ }
+        ensures cycled { λ r. ⌜ (now (self .entry) .mode ≡ Free → Cycled (P·Port .state) (P·Port .does) (now (self .entry) .mode) (now (self .entry) .port) Asks (MasterRead word) Gives (asWord r) (now (self .exit) .mode) (now (self .exit) .port)) ⌝ }
+        ensures refused { λ r. ⌜ ((now (self .entry) .mode ≡ Free → ⊥) → Called (P·Port .state) (P·Port .does) (now (self .entry) .mode) (now (self .entry) .port) Asks (asWord r) (now (self .exit) .mode) (now (self .exit) .port)) ⌝ }
+    {
+        let grant = self.ask()?;
+        let value = self.master_read(&grant, word);
+        self.give(grant)?;
+        value
     }
 }
