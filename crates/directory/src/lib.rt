@@ -1,0 +1,9 @@
+//! The directory of the cache and its line buffer: plain tables, which know of no port.
+mod marks;
+
+pub use marks::Marks;
+pub use marks::MarksDebug;
+pub use marks::MarksPartialEq;
+pub use marks::WayNumber;
+pub use marks::WayNumberDebug;
+pub use marks::WayNumberPartialEq;
