@@ -1,1 +1,2 @@
 pub mod Touching
+pub mod Looking

@@ -1,2 +1,3 @@
 pub mod Touch
+pub mod Sets
 pub mod Laws

@@ -1,5 +1,6 @@
 -- The marks of a set: what a touch makes of them, and the way they name.
 use mathlib.Core.Bool.{Bool, true, false, cond}
+use mathlib.Core.List.{List, [], _∷_}
 use Prim.Native.Nat.{ℕ, _+_, _*_}
 use lib.Dec.{eqb}
 use Rattle.std.specs.declared.option.Option.{Option}
@@ -13,6 +14,9 @@ indexOf Zero = 0
 indexOf One = 1
 indexOf Two = 2
 indexOf Three = 3
+
+abbrev pub everyWay : List WayNumber
+everyWay = Zero ∷ One ∷ Two ∷ Three ∷ []
 
 abbrev pub wayNumbered : ℕ → Option WayNumber
 wayNumbered n =

@@ -1,5 +1,6 @@
 //! The directory of the cache and its line buffer: plain tables, which know of no port.
 mod marks;
+mod sets;
 
 pub use marks::Marks;
 pub use marks::MarksDebug;
@@ -7,3 +8,4 @@ pub use marks::MarksPartialEq;
 pub use marks::WayNumber;
 pub use marks::WayNumberDebug;
 pub use marks::WayNumberPartialEq;
+pub use sets::Way;

@@ -13,6 +13,14 @@ pub enum WayNumber {
     Three,
 }
 
+/// All the ways, in the order in which they are looked through.
+pub const WAYS: [WayNumber; 4] = [
+    WayNumber::Zero,
+    WayNumber::One,
+    WayNumber::Two,
+    WayNumber::Three,
+];
+
 impl WayNumber {
     /// The way with that number, where a set has one.
     pub fn new(number: u32) -> Option<WayNumber>
@@ -29,7 +37,8 @@ impl WayNumber {
 
     /// Where the way stands in its set.
     pub fn index(self) -> usize
-        ensures { λ r. ⌜ r ≡ indexOf self ⌝ }
+        ensures value { λ r. ⌜ r ≡ indexOf self ⌝ }
+        ensures small { λ r. ⌜ r < 4 ⌝ }
     {
         match self {
             WayNumber::Zero => 0,
