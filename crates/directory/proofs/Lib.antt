@@ -1,2 +1,5 @@
 pub mod Touching
 pub mod Looking
+pub mod Views
+pub mod Apart
+pub mod Changing

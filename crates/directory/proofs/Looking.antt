@@ -3,6 +3,7 @@ use mathlib.Core.Path.{_≡_, refl, sym, _∙_, ap, ap₂}
 use mathlib.Core.Bool.{Bool, true, false, cond}
 use mathlib.Core.List.{List, [], _∷_}
 use Prim.Native.Nat.{ℕ, _+_, _<_, _≤_}
+use native.Mathlib.Numerals.{add-one}
 use native.Mathlib.Omega.{arith}
 use lib.ListN.{length, getD, take, drop}
 use mir.Val.{boolByte}
@@ -17,7 +18,8 @@ use Rattle.directory.specs.declared.marks.WayNumber.the-variants.{Zero, One, T
 use Rattle.directory.specs.declared.sets.Way.{Way}
 use Rattle.directory.specs.declared.sets.SetRecord.{SetRecord}
 use Rattle.directory.specs.Touch.{everyWay}
-use Rattle.directory.specs.Sets.{firstWay, hasTag, wayIn}
+use Rattle.directory.specs.Sets.{noSet, firstWay, hasTag, wayIn}
+use Rattle.directory.specs.Dirs.{setOf, tagOf, viewOf, found, sumBelow}
 
 abbrev flag : Bool → ℕ
 flag b = cond b 1 0
@@ -51,3 +53,19 @@ counted-more s i n r h e inv =
 
 pub counted-all : (s : SetRecord) (i n : ℕ) → 4 ≤ i → n ≡ countBy (λ k. wayIn s k .valid) (take i everyWay) → n ≡ countBy (λ k. wayIn s k .valid) everyWay
 counted-all s i n h inv = inv ∙ ap (λ (ks : List WayNumber). countBy (λ k. wayIn s k .valid) ks) (take-all i everyWay h)
+
+-- the search as the code makes it: i and tag are computed from the line
+pub found-as : (sets : List SetRecord) (line i tag : ℕ) (r : Option WayNumber) → i ≡ setOf line → tag ≡ tagOf line → r ≡ firstWay (λ k. hasTag tag (wayIn (getD sets i noSet) k)) everyWay → r ≡ found (viewOf sets) line
+found-as sets line i tag r e et f =
+    f
+    ∙ ap (λ (n : ℕ). firstWay (λ k. hasTag tag (wayIn (getD sets n noSet) k)) everyWay) e
+    ∙ ap (λ (t : ℕ). firstWay (λ k. hasTag t (wayIn (getD sets (setOf line) noSet) k)) everyWay) et
+
+-- the count over all sets
+pub sum-none : (f : ℕ → ℕ) → 0 ≡ sumBelow f 0
+unfolding sumBelow
+sum-none f = refl
+
+pub sum-more : (f : ℕ → ℕ) (i n m : ℕ) → n ≡ sumBelow f i → m ≡ f i → n + m ≡ sumBelow f (i + 1)
+unfolding sumBelow
+sum-more f i n m e g = rw add-one (ap₂ (λ (a b : ℕ). a + b) e g)

@@ -41,7 +41,7 @@ agree-same false false e = refl
 abbrev marksAt : ℕ → Marks
 marksAt n = record { m0 = eqb (n % 2) 1; m1 = eqb (n / 2 % 2) 1; m2 = eqb (n / 4 % 2) 1 }
 
-abbrev wayAt : ℕ → WayNumber
+abbrev pub wayAt : ℕ → WayNumber
 wayAt n = cond (eqb n 0) Zero (cond (eqb n 1) One (cond (eqb n 2) Two Three))
 
 abbrev sameMarks : Marks → Marks → Bool
@@ -73,11 +73,14 @@ marks-numbered m = by-bits (m .m0) (m .m1) (m .m2)
     by-bits false false true = refl
     by-bits false false false = refl
 
-way-numbered : (k : WayNumber) → wayAt (indexOf k) ≡ k
+pub way-numbered : (k : WayNumber) → wayAt (indexOf k) ≡ k
 way-numbered Zero = refl
 way-numbered One = refl
 way-numbered Two = refl
 way-numbered Three = refl
+
+pub index-injective : (j k : WayNumber) → indexOf j ≡ indexOf k → j ≡ k
+index-injective j k e = sym (way-numbered j) ∙ ap wayAt e ∙ way-numbered k
 
 pub index-below : (k : WayNumber) → indexOf k < 4
 index-below Zero = omega arith

@@ -1,9 +1,35 @@
 -- What holds of the tables whatever was done to them.
+use mathlib.Core.Path.{_≡_}
 use mathlib.Core.Logic.{_≢_}
+use mathlib.Core.Bool.{true, false}
+use Prim.Native.Nat.{ℕ}
+use Rattle.std.specs.declared.option.Option.the-variants.{Some, None}
 use Rattle.directory.specs.declared.marks.Marks.{Marks}
 use Rattle.directory.specs.declared.marks.WayNumber.{WayNumber}
 use Rattle.directory.specs.Touch.{touchedMarks, victimOf}
+use Rattle.directory.specs.Dirs.{Dir, setOf, holds, found, twins}
 
 -- The way just touched is never the next victim.
 abbrev pub Touched-way-is-spared : Type 0
 Touched-way-is-spared = (m : Marks) (k : WayNumber) → victimOf (touchedMarks m k) ≢ k
+
+-- No two valid ways of a set have the same tag.
+abbrev pub Tags-are-apart : Dir → Type 0
+Tags-are-apart d = (i : ℕ) (j k : WayNumber) → twins d i j k ≡ false
+
+-- A line is found in the one way that holds it, and not found where none does.
+pub record One-way-holds-a-line (d : Dir) : Type 0 where
+  pub one : (line : ℕ) (j k : WayNumber) → holds d line j ≡ true → holds d line k ≡ true → j ≡ k
+  pub finds : (line : ℕ) (k : WayNumber) → holds d line k ≡ true → found d line ≡ Some k
+  pub held : (line : ℕ) (k : WayNumber) → found d line ≡ Some k → holds d line k ≡ true
+  pub none : (line : ℕ) → found d line ≡ None → (k : WayNumber) → holds d line k ≡ false
+
+-- A touch changes the marks of its set, and nothing else.
+pub record Only-marks-of-one-set (before after : Dir) (i : ℕ) : Type 0 where
+  pub ways : after .way ≡ before .way
+  pub others : (j : ℕ) → j ≢ i → after .marks j ≡ before .marks j
+
+-- A line just installed is found in its way, and every other line that was found and not replaced is found where it was.
+pub record Install-keeps-other-lines (before after : Dir) (line : ℕ) (k : WayNumber) : Type 0 where
+  pub new : found after line ≡ Some k
+  pub others : (other : ℕ) (j : WayNumber) → found before other ≡ Some j → (setOf other ≡ setOf line → j ≢ k) → found after other ≡ Some j

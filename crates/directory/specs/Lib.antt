@@ -1,3 +1,5 @@
 pub mod Touch
 pub mod Sets
+pub mod Dirs
+pub mod View
 pub mod Laws

@@ -1,7 +1,10 @@
 //! The directory of the cache and its line buffer: plain tables, which know of no port.
+mod directory;
 mod marks;
 mod sets;
 
+pub use directory::Directory;
+pub use directory::WayState;
 pub use marks::Marks;
 pub use marks::MarksDebug;
 pub use marks::MarksPartialEq;
