@@ -3,3 +3,4 @@ pub mod Looking
 pub mod Views
 pub mod Apart
 pub mod Changing
+pub mod Ticking

@@ -2,12 +2,14 @@
 use mathlib.Core.Path.{_≡_}
 use mathlib.Core.Logic.{_≢_}
 use mathlib.Core.Bool.{true, false}
-use Prim.Native.Nat.{ℕ}
+use Prim.Native.Nat.{ℕ, _+_, _<_}
+use lib.Count.{ones}
 use Rattle.std.specs.declared.option.Option.the-variants.{Some, None}
 use Rattle.directory.specs.declared.marks.Marks.{Marks}
 use Rattle.directory.specs.declared.marks.WayNumber.{WayNumber}
 use Rattle.directory.specs.Touch.{touchedMarks, victimOf}
 use Rattle.directory.specs.Dirs.{Dir, setOf, holds, found, twins}
+use Rattle.directory.specs.Ticks.{ticked, tick, placeAt}
 
 -- The way just touched is never the next victim.
 abbrev pub Touched-way-is-spared : Type 0
@@ -33,3 +35,17 @@ pub record Only-marks-of-one-set (before after : Dir) (i : ℕ) : Type 0 where
 pub record Install-keeps-other-lines (before after : Dir) (line : ℕ) (k : WayNumber) : Type 0 where
   pub new : found after line ≡ Some k
   pub others : (other : ℕ) (j : WayNumber) → found before other ≡ Some j → (setOf other ≡ setOf line → j ≢ k) → found after other ≡ Some j
+
+-- The eight steps of a fill visit each place of the line, and none twice, whatever the first.
+pub record Fill-visits-each-place-once : Type 0 where
+  pub within : (first step : ℕ) → first < 8 → step < 8 → placeAt first step < 8
+  pub reached : (first place : ℕ) → first < 8 → place < 8 → (step : ℕ) × (step < 8) × (placeAt first step ≡ place)
+  pub once : (first j k : ℕ) → first < 8 → j < 8 → k < 8 → placeAt first j ≡ placeAt first k → j ≡ k
+
+-- Ticking a new place adds one.
+abbrev pub New-tick-adds-one : Type 0
+New-tick-adds-one = (ticks place : ℕ) → ticks < 256 → place < 8 → ticked ticks place ≡ false → ones (tick ticks place) ≡ ones ticks + 1
+
+-- Eight ones mean that every place is there.
+abbrev pub Eight-ticks-are-all : Type 0
+Eight-ticks-are-all = (ticks place : ℕ) → ticks < 256 → place < 8 → ones ticks ≡ 8 → ticked ticks place ≡ true

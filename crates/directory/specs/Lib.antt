@@ -2,4 +2,5 @@ pub mod Touch
 pub mod Sets
 pub mod Dirs
 pub mod View
+pub mod Ticks
 pub mod Laws
