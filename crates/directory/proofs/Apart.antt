@@ -14,10 +14,12 @@ use Rattle.std.specs.declared.option.Option.the-variants.{Some, None}
 use Rattle.directory.specs.declared.marks.WayNumber.{WayNumber}
 use Rattle.directory.specs.declared.marks.WayNumber.the-variants.{Zero, One, Two, Three}
 use Rattle.directory.specs.declared.sets.Way.{Way}
+use Rattle.directory.specs.declared.directory.Directory.{Directory}
+use Rattle.directory.specs.View.{view}
 use Rattle.directory.specs.Touch.{indexOf, sameWay, everyWay}
 use Rattle.directory.specs.Sets.{emptyWay, filledWay, wordedWay, masked, hasTag, firstWay}
 use Rattle.directory.specs.Dirs.{Dir, setOf, tagOf, lineOf, placeOf, emptied, put, touched, holds, found, installed, droppedOf, dropped, changed, twinWays, twins}
-use Rattle.directory.specs.Laws.{Tags-are-apart, One-way-holds-a-line, Only-marks-of-one-set, Install-keeps-other-lines}
+use Rattle.directory.specs.Laws.{Tags-are-apart, One-way-holds-a-line, Only-marks-of-one-set, Install-keeps-other-lines, Drop-forgets-one-line}
 use Rattle.directory.proofs.Touching.{index-injective}
 
 twin-sym : (x y : Way) → twinWays x y ≡ false → twinWays y x ≡ false
@@ -141,3 +143,52 @@ module _ (d : Dir) (line : ℕ) (k : WayNumber) (protect : Bool) (words : List �
     others = λ other j f n. finds (installed d line k protect words) (apart-installed d line k protect words a e) other j
         (ap (hasTag (tagOf other)) (unmoved other j n) ∙ held d other j f);
   }
+
+-- ---- the law of a drop
+
+-- a way that holds a line holds no other line of its set
+other-tag : (d : Dir) (line other : ℕ) (k : WayNumber) → holds d line k ≡ true → other ≢ line → setOf other ≡ setOf line → holds d other k ≡ false
+other-tag d line other k h n e =
+    let t : d .way (setOf line) k .tag ≡ tagOf line = grind (arith, tells) in
+    ap (λ (i : ℕ). hasTag (tagOf other) (d .way i k)) e
+    ∙ and-right (d .way (setOf line) k .valid) _ (ne-eqb (d .way (setOf line) k .tag) (tagOf other) (λ f. n (omega arith)))
+
+module _ (d : Dir) (line : ℕ) (a : Tags-are-apart d) where
+  module _ (k : WayNumber) (h : holds d line k ≡ true) where
+    gone-way : (j : WayNumber) → holds (put d (setOf line) k emptyWay) line j ≡ false
+    gone-way j =
+        elim (cases-eq (indexOf j) (indexOf k)) [
+          | inl e ↦ ap (hasTag (tagOf line)) (put-here d (setOf line) k emptyWay (setOf line) j refl e)
+          | inr n ↦ ap (hasTag (tagOf line)) (put-other-way d (setOf line) k emptyWay (setOf line) j n) ∙ not-two j n
+        ]
+      where
+        not-two : (j : WayNumber) → (indexOf j ≡ indexOf k → ⊥) → holds d line j ≡ false
+        not-two j n = elim (cases-bool (holds d line j)) [ inl y ↦ absurd (n (ap indexOf (one d a line j k y h))) | inr f ↦ f ]
+
+    other-way : (other : ℕ) → other ≢ line → (j : WayNumber) → holds (put d (setOf line) k emptyWay) other j ≡ holds d other j
+    other-way other n j =
+        elim (cases-eq (setOf other) (setOf line)) [
+          | inr away ↦ ap (hasTag (tagOf other)) (put-other-set d (setOf line) k emptyWay (setOf other) j away)
+          | inl e ↦ elim (cases-eq (indexOf j) (indexOf k)) [
+            | inr jn ↦ ap (hasTag (tagOf other)) (put-other-way d (setOf line) k emptyWay (setOf other) j jn)
+            | inl jk ↦ ap (hasTag (tagOf other)) (put-here d (setOf line) k emptyWay (setOf other) j e jk)
+                ∙ sym (ap (holds d other) (index-injective j k jk) ∙ other-tag d line other k h n e)
+          ]
+        ]
+
+    none-left : found (put d (setOf line) k emptyWay) line ≡ None
+    none-left = λ n. firstWay (λ j. gone-way j n) everyWay
+
+    pub put-forgets : Drop-forgets-one-line d (put d (setOf line) k emptyWay) line
+    put-forgets = record { gone = none-left; others = λ other n. λ m. firstWay (λ j. other-way other n j m) everyWay }
+
+  pub drop-forgets : Drop-forgets-one-line d (dropped d line) line
+  drop-forgets = by-answer (found d line) refl
+    where
+      by-answer : (o : Option WayNumber) → found d line ≡ o → Drop-forgets-one-line d (droppedOf d line o) line
+      by-answer None e = record { gone = e; others = λ other n. refl }
+      by-answer (Some k) e = put-forgets k (held d line k e)
+
+-- a directory has the law by its type
+pub apart-of : (d : Directory) → Tags-are-apart (view d)
+apart-of d = d .apart

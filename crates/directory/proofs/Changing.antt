@@ -9,10 +9,10 @@ use Rattle.directory.specs.declared.marks.WayNumber.{WayNumber}
 use Rattle.directory.specs.declared.sets.SetRecord.{SetRecord}
 use Rattle.directory.specs.Touch.{indexOf}
 use Rattle.directory.specs.Sets.{noWay, noSet, emptyWay, filledWay, wordedWay, invalidWay, wayIn, touchedSet, putSet, installedSet}
-use Rattle.directory.specs.Dirs.{Dir, setOf, tagOf, lineOf, placeOf, viewOf, put, touched, installed, changed, found}
-use Rattle.directory.specs.Laws.{Tags-are-apart, Only-marks-of-one-set, Install-keeps-other-lines}
+use Rattle.directory.specs.Dirs.{Dir, setOf, tagOf, lineOf, placeOf, viewOf, put, touched, installed, dropped, changed, found}
+use Rattle.directory.specs.Laws.{Tags-are-apart, Only-marks-of-one-set, Install-keeps-other-lines, Drop-forgets-one-line}
 use Rattle.directory.proofs.Views.{view-touched, view-put, view-installed, put-worded}
-use Rattle.directory.proofs.Apart.{apart-installed, apart-dropped, apart-changed, only-marks, install-keeps}
+use Rattle.directory.proofs.Apart.{apart-installed, apart-dropped, apart-changed, only-marks, install-keeps, drop-forgets}
 
 module _ (sets : List SetRecord) (i : ℕ) (k : WayNumber) (s : SetRecord) (h : i < length sets) where
   module _ (line : ℕ) (e : i ≡ setOf line) where
@@ -50,3 +50,6 @@ only-marks-as d e i k p = subst (λ (x : Dir). Only-marks-of-one-set d x i) (sym
 
 pub install-keeps-as : (d e : Dir) (line : ℕ) (k : WayNumber) (protect : Bool) (words : List ℕ) → Tags-are-apart d → found d line ≡ None → e ≡ installed d line k protect words → Install-keeps-other-lines d e line k
 install-keeps-as d e line k protect words a f p = subst (λ (x : Dir). Install-keeps-other-lines d x line k) (sym p) (install-keeps d line k protect words a f)
+
+pub drop-forgets-as : (d e : Dir) (line : ℕ) → Tags-are-apart d → e ≡ dropped d line → Drop-forgets-one-line d e line
+drop-forgets-as d e line a p = subst (λ (x : Dir). Drop-forgets-one-line d x line) (sym p) (drop-forgets d line a)

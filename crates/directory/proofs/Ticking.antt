@@ -1,7 +1,7 @@
 -- Ticks and places: facts of small numbers, by one computed test each.
-use mathlib.Core.Path.{_≡_, refl, sym, _∙_, ap, subst}
-use mathlib.Core.Logic.{inl, inr}
-use mathlib.Core.Bool.{Bool, true, false, _&&_, _||_, not}
+use mathlib.Core.Path.{_≡_, refl, sym, _∙_, ap, ap₂, subst}
+use mathlib.Core.Logic.{_≢_, inl, inr}
+use mathlib.Core.Bool.{Bool, true, false, _&&_, _||_, cond, not}
 use mathlib.Core.List.{List}
 use Prim.Native.Nat.{ℕ, zero, suc, _+_, _*_, _/_, _%_, _^_, _<_, _≤_}
 use native.Mathlib.Numerals.{add-one}
@@ -9,14 +9,17 @@ use native.Mathlib.Omega.{arith}
 use lib.Dec.{eqb, ltb}
 use lib.Bits.{bitOr, bitXor}
 use lib.Count.{ones, onesIn}
-use lib.ListN.{length, set, length-set}
-use Rattle.std.proofs.shelf.Bits.{one-shl}
-use Rattle.std.proofs.shelf.Tests.{or-cases, eqb-true, eq-eqb, ltb-true, both-ways, not-from-true}
+use lib.ListN.{length, getD, set, length-set}
+use Rattle.std.proofs.shelf.Bits.{one-shl, div-mul-add, mod-mul-add}
+use Rattle.std.proofs.shelf.Lists.{getD-set-same, getD-set-other}
+use Rattle.std.specs.declared.option.Option.the-variants.{Some, None}
+use Rattle.std.proofs.shelf.Tests.{or-cases, eqb-true, eq-eqb, ltb-true, both-ways, not-from-true, cases-eq, ne-eqb, cond-true, cond-false, and-from, and-left, or-right}
 use Rattle.directory.specs.declared.marks.WayNumber.{WayNumber}
 use Rattle.directory.specs.declared.fills.Fill.{Fill}
-use Rattle.directory.specs.Ticks.{ticked, tick, placeAt, ticksAfter, nextPlace, starting, stored, Ordered, UnderWay}
-use Rattle.directory.specs.Laws.{Fill-visits-each-place-once, New-tick-adds-one, Eight-ticks-are-all}
-use Rattle.directory.proofs.Touching.{passes, below-both}
+use Rattle.directory.specs.Dirs.{lineOf, placeOf}
+use Rattle.directory.specs.Ticks.{ticked, tick, placeAt, ticksAfter, nextPlace, nextWord, fetchedWord, starting, stored, Ordered, UnderWay}
+use Rattle.directory.specs.Laws.{Fill-visits-each-place-once, New-tick-adds-one, Store-adds-its-word, Eight-ticks-are-all}
+use Rattle.directory.proofs.Touching.{passes, below, below-both, agree, agree-same}
 
 abbrev adds : ℕ → ℕ → Bool
 adds t p = ticked t p || eqb (ones (tick t p)) (ones t + 1)
@@ -55,6 +58,17 @@ ones-after : (first k : ℕ) → first < 8 → k < 9 → ones (ticksAfter first 
 unfolding ones onesIn
 ones-after first k hf hk = eqb-true (ones (ticksAfter first k)) k (below-both (λ a b. eqb (ones (ticksAfter a b)) b) 8 9 refl first k hf hk)
 
+-- what one more step ticks
+pub ticked-more : (first k p : ℕ) → first < 8 → k < 8 → p < 8 → ticked (ticksAfter first (suc k)) p ≡ (ticked (ticksAfter first k) p || eqb p (placeAt first k))
+ticked-more first k p hf hk hp =
+    agree-same _ _
+    (below (λ c. agree (ticked (ticksAfter first (suc k)) c) (ticked (ticksAfter first k) c || eqb c (placeAt first k))) 8
+    (below-both (λ a b. passes (λ c. agree (ticked (ticksAfter a (suc b)) c) (ticked (ticksAfter a b) c || eqb c (placeAt a b))) 8) 8 8 refl first k hf hk) p hp)
+
+-- the last step leaves none unticked
+pub ticked-all : (first p : ℕ) → first < 8 → p < 8 → ticked (ticksAfter first 8) p ≡ true
+ticked-all first p hf hp = below-both (λ a b. ticked (ticksAfter a 8) b) 8 8 refl first p hf hp
+
 ones-zero : ones 0 ≡ 0
 unfolding ones onesIn
 ones-zero = refl
@@ -64,6 +78,10 @@ starts word k protect h = record {
   ordered = record { low = omega arith; place = omega arith; order = ap (ticksAfter (word % 8)) (sym ones-zero); sized = refl };
   short = omega (arith, ones-zero);
 }
+
+or-no : (x y : Bool) → y ≡ false → (x || y) ≡ x
+or-no true y e = refl
+or-no false y e = e
 
 -- a step of a fill under way
 module _ (b : Fill) (u : UnderWay b) where
@@ -86,6 +104,37 @@ module _ (b : Fill) (u : UnderWay b) where
     order = next ∙ ap (ticksAfter (b .first)) (sym next-ones);
     sized = length-set (b .words) (nextPlace b) value ∙ u .ordered .sized;
   }
+
+  pub ticked-stored : (q : ℕ) → q < 8 → ticked (tick (b .ticks) (nextPlace b)) q ≡ (ticked (b .ticks) q || eqb q (nextPlace b))
+  ticked-stored q h =
+      ap (λ (t : ℕ). ticked t q) next
+      ∙ ticked-more (b .first) (ones (b .ticks)) q (u .ordered .place) (u .short) h
+      ∙ ap (λ (t : ℕ). ticked t q || eqb q (nextPlace b)) (sym (u .ordered .order))
+
+  pub store-adds : (value : ℕ) → Store-adds-its-word b (stored b value) value
+  store-adds value = record {
+    new =
+        cond-true (eqb (b .line) (lineOf (nextWord b)) && ticked (tick (b .ticks) (nextPlace b)) (placeOf (nextWord b))) _ None
+        (and-from (eqb (b .line) (lineOf (nextWord b))) _ (eq-eqb (b .line) (lineOf (nextWord b)) (sym (div-mul-add (b .line) 8 (nextPlace b) next-small)))
+        (ap (ticked (tick (b .ticks) (nextPlace b))) (mod-mul-add (b .line) 8 (nextPlace b) next-small) ∙ ticked-stored (nextPlace b) next-small ∙ or-right (ticked (b .ticks) (nextPlace b)) _ (eq-eqb (nextPlace b) (nextPlace b) refl)))
+        ∙ ap (λ (q : ℕ). Some (getD (set (b .words) (nextPlace b) value) q 0)) (mod-mul-add (b .line) 8 (nextPlace b) next-small)
+        ∙ ap Some (getD-set-same (b .words) (nextPlace b) value 0 (omega (arith, next-small, u .ordered .sized)));
+    others = other;
+  }
+    where
+      other : (word : ℕ) → word ≢ nextWord b → fetchedWord (stored b value) word ≡ fetchedWord b word
+      other word n =
+          elim (cases-eq (b .line) (lineOf word)) [
+            | inr away ↦
+                cond-false (eqb (b .line) (lineOf word) && ticked (tick (b .ticks) (nextPlace b)) (placeOf word)) _ _ (and-left _ _ (ne-eqb (b .line) (lineOf word) away))
+                ∙ sym (cond-false (eqb (b .line) (lineOf word) && ticked (b .ticks) (placeOf word)) _ _ (and-left _ _ (ne-eqb (b .line) (lineOf word) away)))
+            | inl e ↦
+                (let m : placeOf word ≢ nextPlace b = λ f. n (omega arith) in
+                let h : placeOf word < 8 = omega arith in
+                ap₂ (λ (t : Bool) (v : ℕ). cond (eqb (b .line) (lineOf word) && t) (Some v) None)
+                (ticked-stored (placeOf word) h ∙ or-no (ticked (b .ticks) (placeOf word)) _ (ne-eqb (placeOf word) (nextPlace b) m))
+                (getD-set-other (b .words) (nextPlace b) (placeOf word) value 0 m))
+          ]
 
 -- the fill as the code leaves it: p is the next place as computed, and the byte is what `ticks | (1 << p)` gives
 abbrev pub left : Fill → ℕ → ℕ → Fill
@@ -117,3 +166,6 @@ module _ (b : Fill) (u : UnderWay b) (p value : ℕ) (e : p ≡ nextPlace b) (h 
 
   pub left-count : ones (left b p value .ticks) ≡ ones (b .ticks) + 1
   left-count = ap (λ (x : Fill). ones (x .ticks)) left-stored ∙ stored-count b u value
+
+  pub left-adds : Store-adds-its-word b (left b p value) value
+  left-adds = subst (λ (x : Fill). Store-adds-its-word b x value) (sym left-stored) (store-adds b u value)

@@ -7,9 +7,10 @@ use lib.Count.{ones}
 use Rattle.std.specs.declared.option.Option.the-variants.{Some, None}
 use Rattle.directory.specs.declared.marks.Marks.{Marks}
 use Rattle.directory.specs.declared.marks.WayNumber.{WayNumber}
+use Rattle.directory.specs.declared.fills.Fill.{Fill}
 use Rattle.directory.specs.Touch.{touchedMarks, victimOf}
 use Rattle.directory.specs.Dirs.{Dir, setOf, holds, found, twins}
-use Rattle.directory.specs.Ticks.{ticked, tick, placeAt}
+use Rattle.directory.specs.Ticks.{ticked, tick, placeAt, nextWord, fetchedWord}
 
 -- The way just touched is never the next victim.
 abbrev pub Touched-way-is-spared : Type 0
@@ -36,6 +37,11 @@ pub record Install-keeps-other-lines (before after : Dir) (line : ℕ) (k : WayN
   pub new : found after line ≡ Some k
   pub others : (other : ℕ) (j : WayNumber) → found before other ≡ Some j → (setOf other ≡ setOf line → j ≢ k) → found after other ≡ Some j
 
+-- A line just dropped is not found, and every other line is found where it was.
+pub record Drop-forgets-one-line (before after : Dir) (line : ℕ) : Type 0 where
+  pub gone : found after line ≡ None
+  pub others : (other : ℕ) → other ≢ line → found after other ≡ found before other
+
 -- The eight steps of a fill visit each place of the line, and none twice, whatever the first.
 pub record Fill-visits-each-place-once : Type 0 where
   pub within : (first step : ℕ) → first < 8 → step < 8 → placeAt first step < 8
@@ -49,3 +55,8 @@ New-tick-adds-one = (ticks place : ℕ) → ticks < 256 → place < 8 → ticked
 -- Eight ones mean that every place is there.
 abbrev pub Eight-ticks-are-all : Type 0
 Eight-ticks-are-all = (ticks place : ℕ) → ticks < 256 → place < 8 → ones ticks ≡ 8 → ticked ticks place ≡ true
+
+-- The word that was fetched next is there from then on, and of the other words the same are there as before.
+pub record Store-adds-its-word (before after : Fill) (value : ℕ) : Type 0 where
+  pub new : fetchedWord after (nextWord before) ≡ Some value
+  pub others : (word : ℕ) → word ≢ nextWord before → fetchedWord after word ≡ fetchedWord before word

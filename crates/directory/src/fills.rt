@@ -4,7 +4,7 @@ ghost use Prim.Native.Nat.{ℕ, _+_, _<_, _≤_};
 ghost use lib.Count.{ones};
 ghost use lib.ListN.{getD};
 ghost use Rattle.directory.specs.Ticks.{ticked, nextPlace, nextWord, complete, starting, stored, fetchedWord, Ordered, UnderWay};
-ghost use Rattle.directory.specs.Laws.{Fill-visits-each-place-once, New-tick-adds-one, Eight-ticks-are-all};
+ghost use Rattle.directory.specs.Laws.{Fill-visits-each-place-once, New-tick-adds-one, Store-adds-its-word, Eight-ticks-are-all};
 use super::marks::WayNumber;
 
 /// A fill under way. The ones of its ticks count the words that have come.
@@ -90,7 +90,7 @@ impl Fill {
         ensures after { λ _. ⌜ now (self .exit) ≡ stored (now (self .entry)) value ⌝ }
         ensures sound { λ _. ⌜ Ordered (now (self .exit)) ⌝ }
         ensures count { λ _. ⌜ ones (now (self .exit) .ticks) ≡ ones (now (self .entry) .ticks) + 1 ⌝ }
-        ensures law { λ _. ⌜ New-tick-adds-one ⌝ }
+        ensures law { λ _. ⌜ Store-adds-its-word (now (self .entry)) (now (self .exit)) value ⌝ ∗ ⌜ New-tick-adds-one ⌝ }
     {
         let place = self.next_place();
         self.words[place as usize] = value;

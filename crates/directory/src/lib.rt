@@ -14,3 +14,6 @@ pub use marks::WayNumber;
 pub use marks::WayNumberDebug;
 pub use marks::WayNumberPartialEq;
 pub use sets::Way;
+
+#[cfg(test)]
+mod tests;

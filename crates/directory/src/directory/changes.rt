@@ -4,7 +4,8 @@ ghost use Prim.Native.Nat.{ℕ, _<_};
 ghost use Rattle.std.specs.declared.option.Option.the-variants.{None};
 ghost use Rattle.directory.specs.Dirs.{emptied, found, installed, dropped, changed, touched, setOf, tagOf};
 ghost use Rattle.directory.specs.View.{view};
-ghost use Rattle.directory.specs.Laws.{Touched-way-is-spared, Only-marks-of-one-set, Install-keeps-other-lines};
+ghost use Rattle.directory.specs.Laws.{Touched-way-is-spared, Only-marks-of-one-set, Install-keeps-other-lines, Drop-forgets-one-line};
+ghost use Rattle.directory.specs.Examples.{Worked-examples};
 use super::Directory;
 use super::set_of;
 use super::tag_of;
@@ -15,7 +16,8 @@ use crate::sets::SetRecord;
 impl Directory {
     /// A directory with no valid way, never touched.
     pub fn new() -> Directory
-        ensures { λ r. ⌜ view r ≡ emptied ⌝ }
+        ensures value { λ r. ⌜ view r ≡ emptied ⌝ }
+        ensures examples { λ _. ⌜ Worked-examples ⌝ }
     {
         Directory {
             sets: [EMPTY_SET; 256],
@@ -51,7 +53,8 @@ impl Directory {
 
     /// Clears the valid flag of the way that holds the line, if there is one. The marks stay.
     pub fn drop_line(&mut self, line: u32)
-        ensures { λ _. ⌜ view (now (self .exit)) ≡ dropped (view (now (self .entry))) line ⌝ }
+        ensures after { λ _. ⌜ view (now (self .exit)) ≡ dropped (view (now (self .entry))) line ⌝ }
+        ensures law { λ _. ⌜ Drop-forgets-one-line (view (now (self .entry))) (view (now (self .exit))) line ⌝ }
     {
         if let Some(way) = self.lookup(line) {
             let sets: &mut [SetRecord] = &mut self.sets;

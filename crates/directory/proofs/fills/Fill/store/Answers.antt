@@ -1,4 +1,4 @@
-use Rattle.directory.proofs.Ticking.{left-stored, left-ordered, left-count, new-tick-adds-one}
+use Rattle.directory.proofs.Ticking.{left-stored, left-ordered, left-count, left-adds, new-tick-adds-one}
 use Rattle.directory.proofs.fills.Fill.store.Needs as need
 
 pub returns : need.returns
@@ -10,5 +10,5 @@ returns c =
       after = left-stored b (c .pre) p (c .args .value) (e .value) (e .small);
       sound = left-ordered b (c .pre) p (c .args .value) (e .value) (e .small);
       count = left-count b (c .pre) p (c .args .value) (e .value) (e .small);
-      law = new-tick-adds-one;
+      law = (left-adds b (c .pre) p (c .args .value) (e .value) (e .small), new-tick-adds-one);
     }
