@@ -19,7 +19,7 @@ use Rattle.directory.specs.View.{view}
 use Rattle.directory.specs.Touch.{indexOf, sameWay, everyWay}
 use Rattle.directory.specs.Sets.{emptyWay, filledWay, wordedWay, masked, hasTag, firstWay}
 use Rattle.directory.specs.Dirs.{Dir, setOf, tagOf, lineOf, placeOf, emptied, put, touched, holds, found, installed, droppedOf, dropped, changed, twinWays, twins}
-use Rattle.directory.specs.Laws.{Tags-are-apart, One-way-holds-a-line, Only-marks-of-one-set, Install-keeps-other-lines, Drop-forgets-one-line}
+use Rattle.directory.specs.Laws.{Tags-are-apart, One-way-holds-a-line, Only-marks-of-one-set, Install-keeps-other-lines, Drop-forgets-one-line, Change-moves-no-line}
 use Rattle.directory.proofs.Touching.{index-injective}
 
 twin-sym : (x y : Way) → twinWays x y ≡ false → twinWays y x ≡ false
@@ -77,6 +77,9 @@ module _ (d : Dir) where
   absent line e One = none-passes (holds d line) everyWay e 1 (omega arith)
   absent line e Two = none-passes (holds d line) everyWay e 2 (omega arith)
   absent line e Three = none-passes (holds d line) everyWay e 3 (omega arith)
+
+  pub unheld : (line : ℕ) → ((k : WayNumber) → holds d line k ≡ false) → found d line ≡ None
+  unheld line e = λ n. firstWay (λ k. e k n) everyWay
 
 module _ (d : Dir) (a : Tags-are-apart d) where
   pub one : (line : ℕ) (j k : WayNumber) → holds d line j ≡ true → holds d line k ≡ true → j ≡ k
@@ -176,11 +179,8 @@ module _ (d : Dir) (line : ℕ) (a : Tags-are-apart d) where
           ]
         ]
 
-    none-left : found (put d (setOf line) k emptyWay) line ≡ None
-    none-left = λ n. firstWay (λ j. gone-way j n) everyWay
-
     pub put-forgets : Drop-forgets-one-line d (put d (setOf line) k emptyWay) line
-    put-forgets = record { gone = none-left; others = λ other n. λ m. firstWay (λ j. other-way other n j m) everyWay }
+    put-forgets = record { gone = unheld (put d (setOf line) k emptyWay) line gone-way; others = λ other n. λ m. firstWay (λ j. other-way other n j m) everyWay }
 
   pub drop-forgets : Drop-forgets-one-line d (dropped d line) line
   drop-forgets = by-answer (found d line) refl
@@ -188,6 +188,34 @@ module _ (d : Dir) (line : ℕ) (a : Tags-are-apart d) where
       by-answer : (o : Option WayNumber) → found d line ≡ o → Drop-forgets-one-line d (droppedOf d line o) line
       by-answer None e = record { gone = e; others = λ other n. refl }
       by-answer (Some k) e = put-forgets k (held d line k e)
+
+-- ---- the law of a change
+
+tag-worded : (x : Way) (place value tag : ℕ) → hasTag tag (masked (wordedWay x place value)) ≡ hasTag tag x
+tag-worded x place value tag = by-valid (x .valid) (x .protect) (x .tag) (x .words)
+  where
+    by-valid : (v p : Bool) (t : ℕ) (ws : List ℕ) → hasTag tag (masked (wordedWay (record { valid = v; protect = p; tag = t; words = ws }) place value)) ≡ hasTag tag (record { valid = v; protect = p; tag = t; words = ws })
+    by-valid true p t ws = refl
+    by-valid false p t ws = refl
+
+module _ (d : Dir) (word : ℕ) (k : WayNumber) (value : ℕ) where
+  same-holds : (line : ℕ) (j : WayNumber) → holds (changed d word k value) line j ≡ holds d line j
+  same-holds line j =
+      elim (cases-eq (setOf line) (setOf (lineOf word))) [
+        | inr away ↦ ap (hasTag (tagOf line)) (put-other-set d (setOf (lineOf word)) k w (setOf line) j away)
+        | inl e ↦ elim (cases-eq (indexOf j) (indexOf k)) [
+          | inr jn ↦ ap (hasTag (tagOf line)) (put-other-way d (setOf (lineOf word)) k w (setOf line) j jn)
+          | inl jk ↦ ap (hasTag (tagOf line)) (put-here d (setOf (lineOf word)) k w (setOf line) j e jk)
+              ∙ tag-worded (d .way (setOf (lineOf word)) k) (placeOf word) value (tagOf line)
+              ∙ sym (ap₂ (λ (i : ℕ) (l : WayNumber). hasTag (tagOf line) (d .way i l)) e (index-injective j k jk))
+        ]
+      ]
+    where
+      w : Way
+      w = wordedWay (d .way (setOf (lineOf word)) k) (placeOf word) value
+
+  pub change-moves-none : Change-moves-no-line d (changed d word k value)
+  change-moves-none line = λ n. firstWay (λ j. same-holds line j n) everyWay
 
 -- a directory has the law by its type
 pub apart-of : (d : Directory) → Tags-are-apart (view d)

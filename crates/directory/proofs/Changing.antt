@@ -10,9 +10,9 @@ use Rattle.directory.specs.declared.sets.SetRecord.{SetRecord}
 use Rattle.directory.specs.Touch.{indexOf}
 use Rattle.directory.specs.Sets.{noWay, noSet, emptyWay, filledWay, wordedWay, invalidWay, wayIn, touchedSet, putSet, installedSet}
 use Rattle.directory.specs.Dirs.{Dir, setOf, tagOf, lineOf, placeOf, viewOf, put, touched, installed, dropped, changed, found}
-use Rattle.directory.specs.Laws.{Tags-are-apart, Only-marks-of-one-set, Install-keeps-other-lines, Drop-forgets-one-line}
+use Rattle.directory.specs.Laws.{Tags-are-apart, Only-marks-of-one-set, Install-keeps-other-lines, Drop-forgets-one-line, Change-moves-no-line}
 use Rattle.directory.proofs.Views.{view-touched, view-put, view-installed, put-worded}
-use Rattle.directory.proofs.Apart.{apart-installed, apart-dropped, apart-changed, only-marks, install-keeps, drop-forgets}
+use Rattle.directory.proofs.Apart.{apart-installed, apart-dropped, apart-changed, only-marks, install-keeps, drop-forgets, change-moves-none}
 
 module _ (sets : List SetRecord) (i : ℕ) (k : WayNumber) (s : SetRecord) (h : i < length sets) where
   module _ (line : ℕ) (e : i ≡ setOf line) where
@@ -53,3 +53,6 @@ install-keeps-as d e line k protect words a f p = subst (λ (x : Dir). Install-k
 
 pub drop-forgets-as : (d e : Dir) (line : ℕ) → Tags-are-apart d → e ≡ dropped d line → Drop-forgets-one-line d e line
 drop-forgets-as d e line a p = subst (λ (x : Dir). Drop-forgets-one-line d x line) (sym p) (drop-forgets d line a)
+
+pub change-moves-none-as : (d e : Dir) (word : ℕ) (k : WayNumber) (value : ℕ) → e ≡ changed d word k value → Change-moves-no-line d e
+change-moves-none-as d e word k value p = subst (Change-moves-no-line d) (sym p) (change-moves-none d word k value)

@@ -42,6 +42,10 @@ pub record Drop-forgets-one-line (before after : Dir) (line : ℕ) : Type 0 wher
   pub gone : found after line ≡ None
   pub others : (other : ℕ) → other ≢ line → found after other ≡ found before other
 
+-- A changed word moves no line.
+abbrev pub Change-moves-no-line : Dir → Dir → Type 0
+Change-moves-no-line before after = (line : ℕ) → found after line ≡ found before line
+
 -- The eight steps of a fill visit each place of the line, and none twice, whatever the first.
 pub record Fill-visits-each-place-once : Type 0 where
   pub within : (first step : ℕ) → first < 8 → step < 8 → placeAt first step < 8

@@ -90,7 +90,8 @@ impl Fill {
         ensures after { λ _. ⌜ now (self .exit) ≡ stored (now (self .entry)) value ⌝ }
         ensures sound { λ _. ⌜ Ordered (now (self .exit)) ⌝ }
         ensures count { λ _. ⌜ ones (now (self .exit) .ticks) ≡ ones (now (self .entry) .ticks) + 1 ⌝ }
-        ensures law { λ _. ⌜ Store-adds-its-word (now (self .entry)) (now (self .exit)) value ⌝ ∗ ⌜ New-tick-adds-one ⌝ }
+        ensures adds { λ _. ⌜ Store-adds-its-word (now (self .entry)) (now (self .exit)) value ⌝ }
+        ensures law { λ _. ⌜ New-tick-adds-one ⌝ }
     {
         let place = self.next_place();
         self.words[place as usize] = value;

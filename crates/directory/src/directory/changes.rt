@@ -4,7 +4,7 @@ ghost use Prim.Native.Nat.{ℕ, _<_};
 ghost use Rattle.std.specs.declared.option.Option.the-variants.{None};
 ghost use Rattle.directory.specs.Dirs.{emptied, found, installed, dropped, changed, touched, setOf, tagOf};
 ghost use Rattle.directory.specs.View.{view};
-ghost use Rattle.directory.specs.Laws.{Touched-way-is-spared, Only-marks-of-one-set, Install-keeps-other-lines, Drop-forgets-one-line};
+ghost use Rattle.directory.specs.Laws.{Touched-way-is-spared, Only-marks-of-one-set, Install-keeps-other-lines, Drop-forgets-one-line, Change-moves-no-line};
 ghost use Rattle.directory.specs.Examples.{Worked-examples};
 use super::Directory;
 use super::set_of;
@@ -64,7 +64,8 @@ impl Directory {
 
     /// Changes a word in a way of its line's set, where that way is valid.
     pub fn change(&mut self, word: u32, way: WayNumber, value: u16)
-        ensures { λ _. ⌜ view (now (self .exit)) ≡ changed (view (now (self .entry))) word way value ⌝ }
+        ensures after { λ _. ⌜ view (now (self .exit)) ≡ changed (view (now (self .entry))) word way value ⌝ }
+        ensures law { λ _. ⌜ Change-moves-no-line (view (now (self .entry))) (view (now (self .exit))) ⌝ }
     {
         let sets: &mut [SetRecord] = &mut self.sets;
         sets[set_of(word / 8)].change(way, (word % 8) as usize, value);

@@ -4,7 +4,7 @@ use Prim.Native.Nat.{_%_}
 use lib.ListN.{set}
 use Rattle.directory.specs.Dirs.{viewOf, changed}
 use Rattle.directory.proofs.Apart.{apart-changed}
-use Rattle.directory.proofs.Changing.{after-change, apart-as}
+use Rattle.directory.proofs.Changing.{after-change, apart-as, change-moves-none-as}
 use Rattle.directory.proofs.directory.Directory.change.Needs.{After-change, at·returns}
 use Rattle.directory.proofs.directory.Directory.change.Needs as need
 
@@ -17,4 +17,6 @@ pub ghost-self : need.ghost-self
 ghost-self c = (apart-as _ _ (after c) (apart-changed (viewOf (c .args .self .now .sets)) (c .args .word) (c .args .way) (c .args .value) (c .args .self .now .apart)), tt)
 
 pub returns : need.returns
-returns c = after (at·returns c .After-change)
+returns c =
+    let a = after (at·returns c .After-change) in
+    record { after = a; law = change-moves-none-as (viewOf (c .args .self .now .sets)) _ (c .args .word) (c .args .way) (c .args .value) a }

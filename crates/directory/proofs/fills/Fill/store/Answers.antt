@@ -10,5 +10,6 @@ returns c =
       after = left-stored b (c .pre) p (c .args .value) (e .value) (e .small);
       sound = left-ordered b (c .pre) p (c .args .value) (e .value) (e .small);
       count = left-count b (c .pre) p (c .args .value) (e .value) (e .small);
-      law = (left-adds b (c .pre) p (c .args .value) (e .value) (e .small), new-tick-adds-one);
+      adds = left-adds b (c .pre) p (c .args .value) (e .value) (e .small);
+      law = new-tick-adds-one;
     }
