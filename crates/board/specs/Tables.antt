@@ -1,7 +1,7 @@
 -- Which calls a board takes, and what each of them does if it is taken.
 use mathlib.Core.Bool.{cond}
 use mathlib.Core.List.{List, [], _∷_}
-use Prim.Native.Nat.{ℕ, _+_, min}
+use Prim.Native.Nat.{ℕ}
 use lib.Dec.{ltb}
 use Rattle.std.specs.declared.option.Option.{Option}
 use Rattle.std.specs.declared.option.Option.the-variants.{Some, None}
@@ -15,6 +15,7 @@ use Rattle.calls.specs.declared.call.Cargo.the-variants.{Nothing, Word as OfWor
 use Rattle.calls.specs.declared.call.Store.{Store}
 use Rattle.calls.specs.Calls.{cargoOf}
 use Rattle.port.specs.declared.Write.{Write}
+use Rattle.port.specs.Memory.{floorAbove}
 use Rattle.port.specs.Meaning.{laned, writing}
 use Rattle.board.specs.declared.answer.Mode.{Mode}
 use Rattle.board.specs.declared.answer.Mode.the-variants.{Free, Locked, Granted}
@@ -81,7 +82,7 @@ placeIn (OfWord w) = w
 placeIn (OfStore s) = s .word
 
 abbrev pub boardFloor : ℕ → ℕ
-boardFloor floor = min (floor + 1) 255
+boardFloor floor = floorAbove floor
 
 -- The board tells what its mode refuses, its port what is past the end or of no known lanes, a bank what cannot be read.
 abbrev pub floorFor : ℕ → Refusal → ℕ

@@ -2,14 +2,14 @@
 use mathlib.Core.Path.{_≡_}
 use mathlib.Core.Bool.{Bool, cond}
 use mathlib.Core.List.{List, []}
-use Prim.Native.Nat.{ℕ, _+_, _-_, _/_, min, max}
+use Prim.Native.Nat.{ℕ, _+_, _-_, _/_, max}
 use lib.Dec.{ltb}
 use Rattle.std.specs.Orderings.{When}
 use Rattle.std.specs.declared.result.Result.{Result}
 use Rattle.std.specs.declared.result.Result.the-variants.{Ok, Err}
 use Rattle.fault.specs.declared.Fault.{Fault}
 use Rattle.port.specs.declared.Write.{Write}
-use Rattle.port.specs.Memory.{Memory, State}
+use Rattle.port.specs.Memory.{Memory, State, floorAbove}
 use Rattle.port.specs.Steps.{Step, reads, writes, advances, outsides, snoops, flushes, Drains}
 use Rattle.joined_map.specs.declared.JoinedMap.{JoinedMap}
 use Rattle.banks.specs.Sizes.{wordsOfLines}
@@ -18,9 +18,9 @@ use Rattle.banks.specs.Sizes.{wordsOfLines}
 abbrev pub side : {X : Type 0} → ℕ → (ℕ → X) → (ℕ → X) → ℕ → X
 side end low high place = cond (ltb place end) (low place) (high (place - end))
 
--- One floor more than the higher of the sides, at most 255.
+-- One floor above the higher of the sides.
 abbrev pub jointFloor : ℕ → ℕ → ℕ
-jointFloor low high = min (max low high + 1) 255
+jointFloor low high = floorAbove (max low high)
 
 abbrev pub jointState : State → State → State
 jointState a b = record {

@@ -98,7 +98,7 @@ written-drained s t u w none a e =
     ap (λ l. record { facts = s .facts; protected = s .protected; settled = stored (s .protected) w (s .settled); waiting = l }) (sym none)
 
 -- A read of a word that is there changes what it likes only where it is accepted, or refused as unreadable.
-readable-kept : {P : Type 0} (p q : P) (b : Bool) (v w : ℕ) (r : Result ℕ Fault) → r ≡ cond b (Ok v) (Err (unreadable w)) → Kept r p q
+pub readable-kept : {P : Type 0} (p q : P) (b : Bool) (v w : ℕ) (r : Result ℕ Fault) → r ≡ cond b (Ok v) (Err (unreadable w)) → Kept r p q
 readable-kept p q true v w r e = subst (λ x. Kept x p q) (sym e) tt
 readable-kept p q false v w r e = subst (λ x. Kept x p q) (sym e) tt
 

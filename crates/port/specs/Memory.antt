@@ -1,7 +1,7 @@
 -- What a port holds: a settled memory, and a line of waiting writes.
 use mathlib.Core.Bool.{Bool, cond}
 use mathlib.Core.List.{List, [], _∷_, _++_}
-use Prim.Native.Nat.{ℕ, _/_}
+use Prim.Native.Nat.{ℕ, _+_, _/_, min}
 use lib.Dec.{eqb}
 use Rattle.port.specs.declared.Write.{Write}
 use Rattle.port.specs.Lanes.{joined}
@@ -23,6 +23,10 @@ pub record State : Type 0 where
   pub protected : ℕ → Bool
   pub settled : Memory
   pub waiting : List Write
+
+-- A stage stands one floor higher than what it stands on; floors are counted up to 255.
+abbrev pub floorAbove : ℕ → ℕ
+floorAbove floor = min (floor + 1) 255
 
 abbrev pub lineOf : ℕ → ℕ
 lineOf word = word / 8
@@ -59,3 +63,12 @@ drained s = record { facts = s .facts; protected = s .protected; settled = seen 
 -- The state after a write from outside, which goes past the waiting line.
 abbrev pub outside : Write → State → State
 outside w s = record { facts = s .facts; protected = s .protected; settled = stored (s .protected) w (s .settled); waiting = s .waiting }
+
+-- The state as a stage shows it, one floor higher.
+abbrev pub raised : State → State
+raised s = record {
+  facts = record { words = s .facts .words; floor = floorAbove (s .facts .floor); cacheable = s .facts .cacheable };
+  protected = s .protected;
+  settled = s .settled;
+  waiting = s .waiting;
+}

@@ -10,11 +10,11 @@ use Rattle.std.specs.declared.result.Result.{Result}
 use Rattle.std.specs.declared.result.Result.the-variants.{Ok, Err}
 use Rattle.fault.specs.declared.Fault.{Fault}
 use Rattle.port.specs.declared.Write.{Write}
-use Rattle.port.specs.Memory.{Memory, Facts, State, seen, posted}
-use Rattle.port.specs.Meaning.{within, writable, laned, thenOk, told, readAnswer, unreadable, pastEnd, badLanes, ByAnswer, Kept, Settles}
+use Rattle.port.specs.Memory.{Memory, Facts, State, seen, posted, raised}
+use Rattle.port.specs.Meaning.{within, writable, laned, thenOk, told, readAnswer, unreadable, pastEnd, badLanes, ByAnswer, Settles}
 use Rattle.port.proofs.Settling.{seen-kept}
 use Rattle.write_buffer.specs.Queues.{leaving, joined, left}
-use Rattle.write_buffer.specs.Buffering.{raised, Takes}
+use Rattle.write_buffer.specs.Buffering.{Takes}
 use Rattle.write_buffer.proofs.Queueing.{left-line}
 
 abbrev pub Answer : Type 0
@@ -68,15 +68,6 @@ passes-write s place lanes end floor h e f =
 pub told-within : (f : Facts) (m : Memory) (w : ℕ) → within w (f .words) (f .floor) ≡ Ok tt →
     told f m w ≡ cond (m .readable w) (Ok (m .word w)) (Err (unreadable w))
 told-within f m w e = ap (λ (r : Answer). thenOk r (cond (m .readable w) (Ok (m .word w)) (Err (unreadable w)))) e
-
-kept-at : {P : Type 0} (b : Bool) (v w : ℕ) (p q : P) → Kept (cond b (Ok v) (Err (unreadable w))) p q
-kept-at true v w p q = tt
-kept-at false v w p q = tt
-
-pub kept-within : {P : Type 0} (r : Result ℕ Fault) (m : Memory) (w : ℕ) (p q : P) →
-    r ≡ cond (m .readable w) (Ok (m .word w)) (Err (unreadable w)) → Kept r p q
-kept-within r m w p q e =
-    let F : Result ℕ Fault → Type 0 = λ x. Kept x p q in subst F (sym e) (kept-at (m .readable w) (m .word w) w p q)
 
 -- what is read below once all was sent there
 pub reads-through : (s t : State) (ws : List Write) (w : ℕ) (r : Result ℕ Fault) → Settles (posted ws s) t →

@@ -7,14 +7,14 @@ use lib.ListN.{length, length-append}
 use Rattle.std.specs.declared.option.Option.{Option}
 use Rattle.std.specs.declared.result.Result.the-variants.{Ok}
 use Rattle.port.specs.declared.Write.{Write}
-use Rattle.port.specs.Memory.{State, posted}
+use Rattle.port.specs.Memory.{State, posted, raised}
 use Rattle.port.specs.Meaning.{Settles, Advances}
 use Rattle.port.specs.Steps.{Step, writes, Chain, done, then}
 use Rattle.port.proofs.Settling.{applied-append, settles-none, settles-then, settles-under, seen-kept}
 use Rattle.write_buffer.specs.declared.buffer.WriteBuffer.{WriteBuffer}
 use Rattle.write_buffer.specs.declared.queue.Queue.{Queue}
 use Rattle.write_buffer.specs.Queues.{leaving, left}
-use Rattle.write_buffer.specs.Buffering.{raised, buffered, sends, Buffering-is-lawful}
+use Rattle.write_buffer.specs.Buffering.{buffered, sends, Buffering-is-lawful}
 use Rattle.write_buffer.proofs.Queueing.{at-most-four}
 
 pub settles-facts : (s t : State) → Settles s t → t .facts ≡ s .facts

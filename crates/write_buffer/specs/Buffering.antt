@@ -1,27 +1,18 @@
 -- What a write buffer means, and what its calls do: to its queue, and by which calls to the port below.
 use mathlib.Core.Path.{_≡_}
 use mathlib.Core.List.{List, [], _∷_, _++_}
-use Prim.Native.Nat.{ℕ, _+_, _<_, _≤_, min}
+use Prim.Native.Nat.{ℕ, _<_, _≤_}
 use lib.ListN.{length}
 use Rattle.std.specs.declared.result.Result.{Result}
 use Rattle.std.specs.declared.result.Result.the-variants.{Ok}
 use Rattle.fault.specs.declared.Fault.{Fault}
 use Rattle.port.specs.declared.Write.{Write}
-use Rattle.port.specs.Memory.{Facts, State, applied, seen, posted}
+use Rattle.port.specs.Memory.{Facts, State, applied, seen, posted, raised}
 use Rattle.port.specs.Meaning.{within, writable, Settles, ByAnswer}
 use Rattle.port.specs.Steps.{Step, reads, writes, advances, outsides, snoops, flushes, Chain}
 use Rattle.write_buffer.specs.declared.buffer.WriteBuffer.{WriteBuffer}
 use Rattle.write_buffer.specs.declared.queue.Queue.{Queue}
 use Rattle.write_buffer.specs.Queues.{queued, leaving, joined, left}
-
--- The state as the next floor shows it; floors are counted up to 255.
-abbrev pub raised : State → State
-raised s = record {
-  facts = record { words = s .facts .words; floor = min (s .facts .floor + 1) 255; cacheable = s .facts .cacheable };
-  protected = s .protected;
-  settled = s .settled;
-  waiting = s .waiting;
-}
 
 -- What a buffer shows of the port below: its line goes on with the queue.
 abbrev pub buffered : State → List Write → State
