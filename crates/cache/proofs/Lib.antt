@@ -1,0 +1,5 @@
+pub mod Lines
+pub mod Answering
+pub mod Keeping
+pub mod Fetching
+pub mod Reading

@@ -1,0 +1,4 @@
+pub mod Showing
+pub mod Rules
+pub mod Coherence
+pub mod Doing
