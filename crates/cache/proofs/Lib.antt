@@ -3,3 +3,5 @@ pub mod Answering
 pub mod Keeping
 pub mod Fetching
 pub mod Reading
+pub mod Changing
+pub mod Checking

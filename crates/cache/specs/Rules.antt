@@ -171,6 +171,6 @@ abbrev pub writeTurn : Shown → Model → Write → Result (Unit {0}) Fault →
 writeTurn v t w r =
     turn (written (readyTurn v t (lineOf (w .word)) .tables) w) (readyTurn v t (lineOf (w .word)) .calls ++ (writes w r ∷ []))
 
--- An advance fetches one word if a fill is under way, and is passed on.
+-- An advance brings one more word to a fill, and is passed on.
 abbrev pub advanceTurn : Shown → Model → Turn
 advanceTurn v t = turn (fetched v t) (fetchCalls v (t .fill) ++ (advances ∷ []))
