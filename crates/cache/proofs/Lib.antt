@@ -5,3 +5,4 @@ pub mod Fetching
 pub mod Reading
 pub mod Changing
 pub mod Checking
+pub mod Calling

@@ -2,14 +2,19 @@
 use mathlib.Core.Path.{_≡_}
 use mathlib.Core.List.{List, [], _∷_}
 use Prim.Native.Nat.{ℕ}
+use Rattle.std.specs.declared.result.Result.{Result}
+use Rattle.std.specs.declared.result.Result.the-variants.{Ok, Err}
+use Rattle.fault.specs.declared.Fault.{Fault}
 use Rattle.port.specs.declared.Write.{Write}
 use Rattle.port.specs.Memory.{State}
-use Rattle.port.specs.Meaning.{within, ByAnswer}
+use Rattle.port.specs.Meaning.{pastEnd, within, ByAnswer}
 use Rattle.port.specs.Steps.{Step, reads, writes, advances, outsides, snoops, flushes, Chain}
-use Rattle.directory.specs.Dirs.{lineOf}
+use Rattle.directory.specs.declared.directory.questions.WayState.{WayState}
+use Rattle.directory.specs.Dirs.{Dir, lineOf}
+use Rattle.directory.specs.View.{inspected}
 use Rattle.cache.specs.declared.cache.Cache.{Cache}
 use Rattle.cache.specs.Showing.{Shown, shown}
-use Rattle.cache.specs.Rules.{Model, Turn, model, turn, cleared, dropped, readTurn, writeTurn, advanceTurn}
+use Rattle.cache.specs.Rules.{Model, Turn, model, turn, ifSome, cleared, dropped, readTurn, writeTurn, advanceTurn}
 use Rattle.cache.specs.Coherence.{Coherent}
 
 -- What the port below shows, and the tables.
@@ -18,6 +23,10 @@ showsBelow state c = shown (state (c .below))
 
 abbrev pub tablesOf : {P : Type 0} → Cache P → Model
 tablesOf c = model (c .tables)
+
+-- What is told of a way; where there is no such set or way the question is refused as past the end, at the set.
+abbrev pub inspectAnswer : Dir → ℕ → ℕ → ℕ → Result WayState Fault
+inspectAnswer d floor set way = ifSome (inspected d set way) (λ told. Ok told) (Err (pastEnd set floor))
 
 -- A sound cache stands on a sound port, and its tables hold what is seen there.
 pub record Sound {P : Type 0} (state : P → State) (sound : P → Type 0) (c : Cache P) : Type 0 where

@@ -1,15 +1,21 @@
 //! The stage itself: tables over any port, which is a port again.
 ghost use mathlib.Core.Path.{_≡_};
-ghost use Prim.Native.Nat.{ℕ, _<_};
+ghost use mathlib.Core.Bool.{false};
+ghost use Prim.Native.Nat.{ℕ, _<_, _≤_};
 ghost use Rattle.std.specs.declared.option.Option.the-variants.{None};
+ghost use Rattle.port.specs.Memory.{floorAbove, raised};
 ghost use Rattle.port.specs.Meaning.{Settles};
-ghost use Rattle.directory.specs.Dirs.{lineOf, found};
+ghost use Rattle.directory.specs.Dirs.{lineOf, found, validWays};
 ghost use Rattle.cache.specs.Showing.{reading};
-ghost use Rattle.cache.specs.Rules.{cleared, fetchTurn, finishTurn, missTurn};
-ghost use Rattle.cache.specs.Doing.{showsBelow, tablesOf, Sound, Takes};
+ghost use Rattle.cache.specs.Rules.{cleared, fetchTurn, finishTurn, missTurn, fillsOpen, readyTurn};
+ghost use Rattle.cache.specs.Doing.{showsBelow, tablesOf, inspectAnswer, Sound, Takes, Does};
 use super::tables::Tables;
+use directory::WayState;
 use fault::Fault;
+use fault::Refusal;
 use port::Port;
+use port::check_range;
+use port::check_write;
 
 /// A port that keeps lines of the port below.
 #[derive(Drop)]
@@ -71,5 +77,132 @@ impl<P: Port> Cache<P> {
             self.tables.begin(word, protect, value);
         }
         Ok(value)
+    }
+
+    // Before a write to a line: finishes a fill of it, unless the line is protected.
+    fn make_ready(&mut self, line: u32)
+        requires { ⌜ Sound (P·Port .state) (P·Port .sound) (now self) ⌝ }
+        ensures sound { λ _. ⌜ Sound (P·Port .state) (P·Port .sound) (now (self .exit)) ⌝ }
+        ensures after { λ _. ⌜ Settles (P·Port .state (now (self .entry) .below)) (P·Port .state (now (self .exit) .below)) ⌝ }
+        ensures did { λ _. ⌜ Takes (P·Port .does) (readyTurn (showsBelow (P·Port .state) (now (self .entry))) (tablesOf (now (self .entry))) line) (now (self .entry)) (now (self .exit)) ⌝ }
+        ensures closed { λ _. ⌜ fillsOpen (now (self .exit) .tables .fill) line ≡ false ⌝ }
+    {
+        if self.tables.fills_open(line) {
+            self.finish();
+        }
+    }
+}
+
+impl<P: Port> Cache<P> {
+    /// A cache over a port, with no valid way, no mark and no fill.
+    pub fn new(below: P) -> Cache<P>
+        requires { ⌜ P·Port .sound below ⌝ }
+        ensures sound { λ r. ⌜ Sound (P·Port .state) (P·Port .sound) r ⌝ }
+        ensures below { λ r. ⌜ r .below ≡ below ⌝ }
+        ensures tables { λ r. ⌜ tablesOf r ≡ cleared ⌝ }
+    {
+        // A port tells with its size that it consists of whole lines, which the tables rest on.
+        let _ = below.words();
+        Cache {
+            below,
+            tables: Tables::new(),
+        }
+    }
+
+    /// What stands in a way of a set.
+    pub fn inspect(&self, set: u32, way: u32) -> Result<WayState, Fault>
+        requires { ⌜ Sound (P·Port .state) (P·Port .sound) (now self) ⌝ }
+        ensures { λ r. ⌜ r ≡ inspectAnswer (tablesOf (now (self .entry)) .dir) (floorAbove (P·Port .state (now (self .entry) .below) .facts .floor)) set way ⌝ }
+    {
+        match self.tables.directory.inspect(set, way) {
+            Some(told) => Ok(told),
+            None => Err(Fault {
+                refusal: Refusal::PastEnd,
+                place: set,
+                floor: self.floor(),
+            }),
+        }
+    }
+
+    /// How many ways are valid.
+    pub fn valid_ways(&self) -> u32
+        ensures value { λ r. ⌜ r ≡ validWays (tablesOf (now (self .entry)) .dir) ⌝ }
+        ensures few { λ r. ⌜ r ≤ 1024 ⌝ }
+    {
+        self.tables.directory.valid_ways()
+    }
+}
+
+pub impl<P: Port> Port for Cache<P> as CachePort {
+    ghost state = { λ c. raised (P·Port .state (c .below)) };
+
+    ghost sound = { λ c. Sound (P·Port .state) (P·Port .sound) c };
+
+    ghost does = { λ b d c. Does (P·Port .state) (P·Port .does) b d c };
+
+    fn words(&self) -> u32 {
+        self.below.words()
+    }
+
+    fn floor(&self) -> u8 {
+        self.below.floor().saturating_add(1)
+    }
+
+    fn marks(&self, line: u32) -> Result<(bool, bool), Fault> {
+        check_range(line, self.words() / 8, self.floor())?;
+        self.below.marks(line)
+    }
+
+    fn waiting(&self) -> u32 {
+        self.below.waiting()
+    }
+
+    fn read(&mut self, word: u32) -> Result<u16, Fault> {
+        check_range(word, self.words(), self.floor())?;
+        if let Some(value) = self.tables.buffered(word) {
+            return Ok(value);
+        }
+        if let Some(value) = self.tables.hit(word) {
+            return Ok(value);
+        }
+        self.finish();
+        if let Some(value) = self.tables.hit(word) {
+            return Ok(value);
+        }
+        self.miss(word)
+    }
+
+    fn write(&mut self, word: u32, lanes: u8, value: u16) -> Result<(), Fault> {
+        check_write(word, lanes, self.words(), self.floor())?;
+        self.make_ready(word / 8);
+        self.tables.change(word, lanes, value);
+        self.below.write(word, lanes, value)
+    }
+
+    fn advance(&mut self) {
+        self.fetch_one();
+        self.below.advance();
+    }
+
+    fn settled_read(&self, word: u32) -> Result<u16, Fault> {
+        check_range(word, self.words(), self.floor())?;
+        self.below.settled_read(word)
+    }
+
+    fn outside_write(&mut self, word: u32, lanes: u8, value: u16) -> Result<(), Fault> {
+        check_write(word, lanes, self.words(), self.floor())?;
+        self.tables.drop_line(word / 8);
+        self.below.outside_write(word, lanes, value)
+    }
+
+    fn snoop(&mut self, word: u32) -> Result<(), Fault> {
+        check_range(word, self.words(), self.floor())?;
+        self.tables.drop_line(word / 8);
+        self.below.snoop(word)
+    }
+
+    fn flush(&mut self) {
+        self.tables.clear();
+        self.below.flush();
     }
 }

@@ -3,3 +3,4 @@ mod cache;
 mod tables;
 
 pub use cache::Cache;
+pub use cache::CachePort;
