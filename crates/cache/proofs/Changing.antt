@@ -84,7 +84,7 @@ module _ (v : Shown) (t : Model) (l : ℕ) (c : Coherent v t) where
   drop-absent : (i : ℕ) (k : WayNumber) → dropped t l .dir .way i k .valid ≡ true → lineIn i (dropped t l .dir .way i k) ≢ l
   drop-absent i k y e = none-some k _ (drop-forgets (t .dir) l (c .apart) .gone) (found-only v (dropped t l) l i k drop-keeps y e .1)
 
-left-apart : (l : ℕ) (f : Option Fill) (b : Fill) → leftOf l f ≡ Some b → b .line ≢ l
+pub left-apart : (l : ℕ) (f : Option Fill) (b : Fill) → leftOf l f ≡ Some b → b .line ≢ l
 left-apart l None b e y = let z : _≡_ {A = ℕ} 0 1 = cc in omega arith
 left-apart l (Some x) b e y = by-test (eqb (x .line) l) refl e
   where

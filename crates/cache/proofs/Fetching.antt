@@ -112,7 +112,7 @@ module _ (v : Shown) (d : Dir) (b : Fill) (c : Coherent v (record { dir = d; fil
   abbrev next : Fill
   next = stored b (v .word (nextWord b))
 
-  fetch-falls : lacking (fetchedOf v d (Some b) .fill) < lacking (Some b)
+  pub fetch-falls : lacking (fetchedOf v d (Some b) .fill) < lacking (Some b)
   fetch-falls = by-read (v .readable (nextWord b)) refl
     where
       by-full : (full : Bool) → v .readable (nextWord b) ≡ true → lacking (cond full (idle (installed d (b .line) (b .way) (b .protect) (next .words))) (record { dir = d; fill = Some next }) .fill) < 8 - ones (b .ticks)

@@ -6,3 +6,5 @@ pub mod Reading
 pub mod Changing
 pub mod Checking
 pub mod Calling
+pub mod Lawful
+pub mod Passing

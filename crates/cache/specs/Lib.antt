@@ -2,3 +2,5 @@ pub mod Showing
 pub mod Rules
 pub mod Coherence
 pub mod Doing
+pub mod Laws
+pub mod Runs

@@ -9,6 +9,8 @@ ghost use Rattle.directory.specs.Dirs.{lineOf, found, validWays};
 ghost use Rattle.cache.specs.Showing.{reading};
 ghost use Rattle.cache.specs.Rules.{cleared, fetchTurn, finishTurn, missTurn, fillsOpen, readyTurn};
 ghost use Rattle.cache.specs.Doing.{showsBelow, tablesOf, inspectAnswer, Sound, Takes, Does};
+ghost use Rattle.cache.specs.Laws.{Caching-is-lawful};
+ghost use Rattle.cache.specs.Runs.{Only-reads-are-kept};
 use super::tables::Tables;
 use directory::WayState;
 use fault::Fault;
@@ -100,6 +102,8 @@ impl<P: Port> Cache<P> {
         ensures sound { λ r. ⌜ Sound (P·Port .state) (P·Port .sound) r ⌝ }
         ensures below { λ r. ⌜ r .below ≡ below ⌝ }
         ensures tables { λ r. ⌜ tablesOf r ≡ cleared ⌝ }
+        ensures law { λ _. ⌜ Caching-is-lawful ⌝ }
+        ensures run { λ _. ⌜ Only-reads-are-kept (P·Port .state) (P·Port .does) ⌝ }
     {
         // A port tells with its size that it consists of whole lines, which the tables rest on.
         let _ = below.words();
@@ -191,7 +195,8 @@ pub impl<P: Port> Port for Cache<P> as CachePort {
 
     fn outside_write(&mut self, word: u32, lanes: u8, value: u16) -> Result<(), Fault> {
         check_write(word, lanes, self.words(), self.floor())?;
-        self.tables.drop_line(word / 8);
+        let line = word / 8;
+        self.tables.drop_line(line);
         self.below.outside_write(word, lanes, value)
     }
 

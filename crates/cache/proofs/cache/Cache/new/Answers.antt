@@ -1,6 +1,8 @@
 use mathlib.Core.Path.{refl}
 use native.Mathlib.Omega.{arith}
 use Rattle.cache.proofs.Calling.{cleared-kept}
+use Rattle.cache.proofs.Lawful.{caching-is-lawful}
+use Rattle.cache.proofs.Passing.{only-reads-are-kept}
 use Rattle.cache.proofs.cache.Cache.new.Needs as need
 
 pub returns : need.returns
@@ -10,4 +12,6 @@ returns g c =
       sound = record { below = c .pre; kept = cleared-kept s s _ refl (c .new .ensures) (omega arith) (omega arith) };
       below = refl;
       tables = c .new .ensures;
+      law = caching-is-lawful;
+      run = only-reads-are-kept (g .P·Port .state) (g .P·Port .does);
     }
