@@ -23,14 +23,14 @@ use Rattle.cache.specs.declared.cache.Cache.{Cache}
 use Rattle.cache.specs.Showing.{Shown, shown, reading}
 use Rattle.cache.specs.Rules.{Model, Turn, turn, ifSome, finishedOf, finished, finishCalls, finishTurn, bufferedOf, hit, touchedBy, begun, readAfter, readTurn, cleared, dropped, written, fillsOpen, readyTurn}
 use Rattle.cache.specs.Coherence.{Sees, Coherent}
-use Rattle.cache.specs.Doing.{Takes}
+use Rattle.cache.specs.Doing.{TakesTurn}
 use Rattle.cache.proofs.Fetching.{shown-kept}
 use Rattle.cache.proofs.Reading.{hit-sees, hit-keeps, none-found, none-touched}
 use Rattle.cache.proofs.Changing.{drop-keeps, clear-keeps, outside-keeps, overwritten, shown-posted, write-keeps}
 use Rattle.cache.proofs.Checking.{InRange}
 
-pub takes-as : {P : Type 0} {does : P → Step → P → Type 0} {b c : Cache P} (x y : Turn) → y ≡ x → Takes does x b c → Takes does y b c
-takes-as {P} {does} {b} {c} x y e h = let F : Turn → Type 0 = λ z. Takes does z b c in subst F (sym e) h
+pub takes-as : {P : Type 0} {does : P → Step → P → Type 0} {b c : Cache P} (x y : Turn) → y ≡ x → TakesTurn does x b c → TakesTurn does y b c
+takes-as {P} {does} {b} {c} x y e h = let F : Turn → Type 0 = λ z. TakesTurn does z b c in subst F (sym e) h
 
 -- ---- one floor higher
 

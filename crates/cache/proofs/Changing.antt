@@ -26,7 +26,7 @@ use Rattle.directory.specs.Laws.{Tags-are-apart}
 use Rattle.directory.proofs.Apart.{held, finds, apart-emptied, drop-forgets, apart-dropped, apart-changed, change-moves-none}
 use Rattle.cache.specs.Showing.{Shown, shown, shownAs, lineSeen, whole, allBelow}
 use Rattle.cache.specs.Rules.{Model, idle, cleared, leftOf, dropped, changedWord, changedOf, written, fillsOpen}
-use Rattle.cache.specs.Coherence.{lineIn, Kept, Filling, FillKept, Coherent}
+use Rattle.cache.specs.Coherence.{lineIn, WayKept, Filling, FillKept, Coherent}
 use Rattle.cache.proofs.Lines.{eight-at, eight-ext, eight-set, line-word, line-set}
 use Rattle.cache.proofs.Keeping.{ways-put, touch}
 use Rattle.cache.proofs.Reading.{held-line}
@@ -63,9 +63,9 @@ left-fill v d e l (Some b) a h = by-test (eqb (b .line) l) refl
     by-test false q = record { under = h .under; inside = h .inside; cached = h .cached; shut = h .shut; got = h .got; absent = a (b .line) (eqb-false (b .line) l q) ∙ h .absent }
 
 module _ (v : Shown) (t : Model) (l : ℕ) (c : Coherent v t) where
-  ways-dropped : (o : Option WayNumber) (i : ℕ) (k : WayNumber) → droppedOf (t .dir) l o .way i k .valid ≡ true → Kept v i (droppedOf (t .dir) l o .way i k)
+  ways-dropped : (o : Option WayNumber) (i : ℕ) (k : WayNumber) → droppedOf (t .dir) l o .way i k .valid ≡ true → WayKept v i (droppedOf (t .dir) l o .way i k)
   ways-dropped None = c .ways
-  ways-dropped (Some k) = ways-put (Kept v) (t .dir) (setOf l) k emptyWay (λ j m _. c .ways j m) (λ e. absurd (both-ways false refl e))
+  ways-dropped (Some k) = ways-put (WayKept v) (t .dir) (setOf l) k emptyWay (λ j m _. c .ways j m) (λ e. absurd (both-ways false refl e))
 
   tags-dropped : (o : Option WayNumber) → Tags-are-apart (droppedOf (t .dir) l o)
   tags-dropped None = c .apart
@@ -120,7 +120,7 @@ FillSame v u (Some b) = Same v u (b .line)
 line-same : (v u : Shown) (l : ℕ) → Same v u l → lineSeen v l ≡ lineSeen u l
 line-same v u l a = eight-ext (λ p. v .word (l * 8 + p)) (λ p. u .word (l * 8 + p)) (λ p hp. sym (a (l * 8 + p) (omega arith)))
 
-kept-alike : (v u : Shown) (i : ℕ) (y : Way) → Alike v u → Same v u (lineIn i y) → Kept v i y → Kept u i y
+kept-alike : (v u : Shown) (i : ℕ) (y : Way) → Alike v u → Same v u (lineIn i y) → WayKept v i y → WayKept u i y
 kept-alike v u i y e a h = record {
   set = h .set;
   inside = subst (λ (n : ℕ). lineIn i y * 8 + 8 ≤ n) (sym (e .words)) (h .inside);
@@ -260,7 +260,7 @@ module _ (v : Shown) (w : Write) where
       abbrev way : Way
       way = t .dir .way (setOf line) k
 
-      kept : Kept v (setOf line) way × (lineIn (setOf line) way ≡ line)
+      kept : WayKept v (setOf line) way × (lineIn (setOf line) way ≡ line)
       kept = held-line v t line k c (held (t .dir) line k is)
 
       shut : way .protect ≡ v .protected line
@@ -269,7 +269,7 @@ module _ (v : Shown) (w : Write) where
       abbrev mine : Way
       mine = wordedWay way (placeOf (w .word)) (changedWord (t .dir) w k)
 
-      kept-mine : way .protect ≡ false → Kept (overwritten v w) (setOf line) mine
+      kept-mine : way .protect ≡ false → WayKept (overwritten v w) (setOf line) mine
       kept-mine o = record {
         set = kept .0 .set;
         inside = kept .0 .inside;
@@ -284,7 +284,7 @@ module _ (v : Shown) (w : Write) where
       valid : way .valid ≡ true
       valid = and-parts (way .valid) (eqb (way .tag) (tagOf line)) (held (t .dir) line k is) .0
 
-      others : (j : ℕ) (l : WayNumber) → (eqb j (setOf line) && sameWay l k) ≡ false → t .dir .way j l .valid ≡ true → Kept (overwritten v w) j (t .dir .way j l)
+      others : (j : ℕ) (l : WayNumber) → (eqb j (setOf line) && sameWay l k) ≡ false → t .dir .way j l .valid ≡ true → WayKept (overwritten v w) j (t .dir .way j l)
       others j l z y = kept-alike v (overwritten v w) j (t .dir .way j l) alike (line-kept (lineIn j (t .dir .way j l)) (λ e. absurd (no e))) (c .ways j l y)
         where
           no : lineIn j (t .dir .way j l) ≢ line
@@ -308,7 +308,7 @@ module _ (v : Shown) (w : Write) where
       hit-changes o = record {
         few = c .few;
         lined = c .lined;
-        ways = ways-put (Kept (overwritten v w)) (t .dir) (setOf line) k mine others (λ _. subst (Kept (overwritten v w) (setOf line)) (sym (cond-true (way .valid) mine emptyWay valid)) (kept-mine o));
+        ways = ways-put (WayKept (overwritten v w)) (t .dir) (setOf line) k mine others (λ _. subst (WayKept (overwritten v w) (setOf line)) (sym (cond-true (way .valid) mine emptyWay valid)) (kept-mine o));
         apart = apart-changed (t .dir) (w .word) k (changedWord (t .dir) w k) (c .apart);
         fill = fill-kept (t .fill) (fill-alike v (overwritten v w) (t .dir) (t .fill) alike (fill-open (t .dir) (t .fill) (c .fill) none) (c .fill));
       }

@@ -23,7 +23,7 @@ use Rattle.directory.proofs.Touching.{index-injective}
 use Rattle.directory.proofs.Ticking.{next-small, stored-count, stored-ordered, store-adds, ticked-all}
 use Rattle.cache.specs.Showing.{Shown, lineSeen, whole}
 use Rattle.cache.specs.Rules.{Model, idle, stowed, fetchedOf, fetched, finishedOf, finished, lacking}
-use Rattle.cache.specs.Coherence.{lineIn, Sees, Kept, Filling, FillKept, Coherent}
+use Rattle.cache.specs.Coherence.{lineIn, Sees, WayKept, Filling, FillKept, Coherent}
 use Rattle.cache.proofs.Lines.{eight-is, all-from, not-all, line-set}
 
 -- the numbers of two ways are the same, and so are the ways
@@ -54,7 +54,7 @@ touch v d f i k c = record { few = c .few; lined = c .lined; ways = c .ways; apa
 
 -- ---- a whole line goes into a way
 
-pub kept-line : (v : Shown) (l : ℕ) (p : Bool) (ws : List ℕ) → l * 8 + 8 ≤ v .words → p ≡ v .protected l → ws ≡ lineSeen v l → whole v l ≡ true → Kept v (setOf l) (filledWay (tagOf l) p ws)
+pub kept-line : (v : Shown) (l : ℕ) (p : Bool) (ws : List ℕ) → l * 8 + 8 ≤ v .words → p ≡ v .protected l → ws ≡ lineSeen v l → whole v l ≡ true → WayKept v (setOf l) (filledWay (tagOf l) p ws)
 kept-line v l p ws inside shut same legible = record {
   set = omega arith;
   inside = omega (arith, line-set l);
@@ -64,11 +64,11 @@ kept-line v l p ws inside shut same legible = record {
 }
 
 pub install : (v : Shown) (d : Dir) (f : Option Fill) (l : ℕ) (k : WayNumber) (p : Bool) (ws : List ℕ) → Coherent v (record { dir = d; fill = f }) → found d l ≡ None →
-    Kept v (setOf l) (filledWay (tagOf l) p ws) → Coherent v (idle (installed d l k p ws))
+    WayKept v (setOf l) (filledWay (tagOf l) p ws) → Coherent v (idle (installed d l k p ws))
 install v d f l k p ws c absent kept = record {
   few = c .few;
   lined = c .lined;
-  ways = ways-put (Kept v) d (setOf l) k (filledWay (tagOf l) p ws) (λ j m _. c .ways j m) (λ _. kept);
+  ways = ways-put (WayKept v) d (setOf l) k (filledWay (tagOf l) p ws) (λ j m _. c .ways j m) (λ _. kept);
   apart = apart-installed d l k p ws (c .apart) absent;
   fill = tt;
 }

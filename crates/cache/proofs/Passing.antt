@@ -17,7 +17,7 @@ use Rattle.directory.specs.Dirs.{lineOf}
 use Rattle.cache.specs.declared.cache.Cache.{Cache}
 use Rattle.cache.specs.Showing.{Shown, reading}
 use Rattle.cache.specs.Rules.{Model, Turn, turn, ifSome, fetched, fetchCalls, lacking, fetches, finished, finishCalls, finishTurn, bufferedOf, hit, touchedBy, begun, readAfter, readTurn, fillsOpen, readyTurn}
-use Rattle.cache.specs.Doing.{showsBelow, tablesOf, Takes, Does}
+use Rattle.cache.specs.Doing.{showsBelow, tablesOf, TakesTurn, Does}
 use Rattle.cache.specs.Runs.{passedBy, passed, Below, Only-reads-are-kept}
 use Rattle.cache.proofs.Fetching.{chain-append}
 
@@ -67,13 +67,13 @@ ready-reads v t line = by-test (fillsOpen (t .fill) line)
 -- ---- one call, and many
 
 module _ {P : Type 0} (state : P → State) (does : P → Step → P → Type 0) where
-  takes-through : (t : Turn) (ds : List Step) (b c : Cache P) → passed (t .calls) ≡ ds → Takes does t b c → Below does ds b c
+  takes-through : (t : Turn) (ds : List Step) (b c : Cache P) → passed (t .calls) ≡ ds → TakesTurn does t b c → Below does ds b c
   takes-through t ds b c e h = record { calls = t .calls; chain = h .below; through = e }
 
   untouched : (b c : Cache P) → c ≡ b → Below does [] b c
   untouched b c e = let F : Cache P → Type 0 = λ x. Below does [] b x in subst F (sym e) (record { calls = []; chain = done; through = refl })
 
-  read-through : (w : ℕ) (r : Result (Unit {0}) Fault) (b c : Cache P) → ByAnswer r (Takes does (readTurn (showsBelow state b) (tablesOf b) w) b c) (c ≡ b) → Below does [] b c
+  read-through : (w : ℕ) (r : Result (Unit {0}) Fault) (b c : Cache P) → ByAnswer r (TakesTurn does (readTurn (showsBelow state b) (tablesOf b) w) b c) (c ≡ b) → Below does [] b c
   read-through w (Ok _) b c h = takes-through _ _ b c (read-reads (showsBelow state b) (tablesOf b) w) h
   read-through w (Err _) b c h = untouched b c h
 

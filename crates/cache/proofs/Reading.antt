@@ -28,7 +28,7 @@ use Rattle.directory.proofs.Apart.{held}
 use Rattle.directory.proofs.Ticking.{starts}
 use Rattle.cache.specs.Showing.{Shown, shown, reading, lineSeen, whole}
 use Rattle.cache.specs.Rules.{Model, Turn, turn, idle, bufferedOf, hitOf, hit, touchedOf, touchedBy, begunFill, begun}
-use Rattle.cache.specs.Coherence.{lineIn, Sees, Kept, Filling, FillKept, Coherent}
+use Rattle.cache.specs.Coherence.{lineIn, Sees, WayKept, Filling, FillKept, Coherent}
 use Rattle.cache.proofs.Lines.{eight-at, all-at, line-word, line-set, line-inside}
 use Rattle.cache.proofs.Keeping.{touch, abandon, filling-more, count-more}
 use Rattle.cache.proofs.Fetching.{shown-kept, move, read-ok, read-err}
@@ -42,12 +42,12 @@ buffered-sees v d (Some b) w x h e = h .got w x (sym e)
 -- ---- a way answers
 
 pub held-line : (v : Shown) (t : Model) (l : ℕ) (k : WayNumber) → Coherent v t → holds (t .dir) l k ≡ true →
-    Kept v (setOf l) (t .dir .way (setOf l) k) × (lineIn (setOf l) (t .dir .way (setOf l) k) ≡ l)
+    WayKept v (setOf l) (t .dir .way (setOf l) k) × (lineIn (setOf l) (t .dir .way (setOf l) k) ≡ l)
 held-line v t l k c h =
     let q = and-parts (t .dir .way (setOf l) k .valid) (eqb (t .dir .way (setOf l) k .tag) (tagOf l)) h in
     (c .ways (setOf l) k (q .0), ap (λ (x : ℕ). x * 256 + setOf l) (eqb-true (t .dir .way (setOf l) k .tag) (tagOf l) (q .1)) ∙ line-set l)
 
-kept-sees : (v : Shown) (i : ℕ) (y : Way) (w : ℕ) → Kept v i y → lineIn i y ≡ lineOf w → Sees v w (getD (y .words) (placeOf w) 0)
+kept-sees : (v : Shown) (i : ℕ) (y : Way) (w : ℕ) → WayKept v i y → lineIn i y ≡ lineOf w → Sees v w (getD (y .words) (placeOf w) 0)
 kept-sees v i y w h e =
     let hp : placeOf w < 8 = omega arith in
     let at : lineIn i y * 8 + placeOf w ≡ w = ap (λ (l : ℕ). l * 8 + placeOf w) e ∙ line-word w in (

@@ -22,7 +22,7 @@ abbrev pub Sees : Shown → ℕ → ℕ → Type 0
 Sees v w x = (v .readable w ≡ true) × (x ≡ v .word w)
 
 -- A way of set i holds a line in range as it is seen, all of it readable, with its protect flag.
-pub record Kept (v : Shown) (i : ℕ) (y : Way) : Type 0 where
+pub record WayKept (v : Shown) (i : ℕ) (y : Way) : Type 0 where
   pub set : i < 256
   pub inside : lineIn i y * 8 + 8 ≤ v .words
   pub same : y .words ≡ lineSeen v (lineIn i y)
@@ -45,6 +45,6 @@ FillKept v d (Some b) = Filling v d b
 pub record Coherent (v : Shown) (t : Model) : Type 0 where
   pub few : v .words ≤ 8388608
   pub lined : v .words % 8 ≡ 0
-  pub ways : (i : ℕ) (k : WayNumber) → t .dir .way i k .valid ≡ true → Kept v i (t .dir .way i k)
+  pub ways : (i : ℕ) (k : WayNumber) → t .dir .way i k .valid ≡ true → WayKept v i (t .dir .way i k)
   pub apart : Tags-are-apart (t .dir)
   pub fill : FillKept v (t .dir) (t .fill)

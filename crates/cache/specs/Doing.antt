@@ -34,16 +34,16 @@ pub record Sound {P : Type 0} (state : P → State) (sound : P → Type 0) (c : 
   pub kept : Coherent (showsBelow state c) (tablesOf c)
 
 -- The tables become what the turn says, and the port below gets its calls, in order and no others.
-pub record Takes {P : Type 0} (does : P → Step → P → Type 0) (t : Turn) (b c : Cache P) : Type 0 where
+pub record TakesTurn {P : Type 0} (does : P → Step → P → Type 0) (t : Turn) (b c : Cache P) : Type 0 where
   pub tables : tablesOf c ≡ t .tables
   pub below : Chain does (b .below) (t .calls) (c .below)
 
 -- A call that the cache refuses leaves it, its tables and the port below as they were. A read of an unreadable word is refused below, where it is one of the turn's calls.
 abbrev pub Does : {P : Type 0} → (P → State) → (P → Step → P → Type 0) → Cache P → Step → Cache P → Type 0
 Does state does b (reads w r) c =
-    ByAnswer (within w (state (b .below) .facts .words) (state (b .below) .facts .floor)) (Takes does (readTurn (showsBelow state b) (tablesOf b) w) b c) (c ≡ b)
-Does state does b (writes w r) c = ByAnswer r (Takes does (writeTurn (showsBelow state b) (tablesOf b) w r) b c) (c ≡ b)
-Does state does b advances c = Takes does (advanceTurn (showsBelow state b) (tablesOf b)) b c
-Does state does b (outsides w r) c = ByAnswer r (Takes does (turn (dropped (tablesOf b) (lineOf (w .word))) (outsides w r ∷ [])) b c) (c ≡ b)
-Does state does b (snoops w r) c = ByAnswer r (Takes does (turn (dropped (tablesOf b) (lineOf w)) (snoops w r ∷ [])) b c) (c ≡ b)
-Does state does b flushes c = Takes does (turn cleared (flushes ∷ [])) b c
+    ByAnswer (within w (state (b .below) .facts .words) (state (b .below) .facts .floor)) (TakesTurn does (readTurn (showsBelow state b) (tablesOf b) w) b c) (c ≡ b)
+Does state does b (writes w r) c = ByAnswer r (TakesTurn does (writeTurn (showsBelow state b) (tablesOf b) w r) b c) (c ≡ b)
+Does state does b advances c = TakesTurn does (advanceTurn (showsBelow state b) (tablesOf b)) b c
+Does state does b (outsides w r) c = ByAnswer r (TakesTurn does (turn (dropped (tablesOf b) (lineOf (w .word))) (outsides w r ∷ [])) b c) (c ≡ b)
+Does state does b (snoops w r) c = ByAnswer r (TakesTurn does (turn (dropped (tablesOf b) (lineOf w)) (snoops w r ∷ [])) b c) (c ≡ b)
+Does state does b flushes c = TakesTurn does (turn cleared (flushes ∷ [])) b c

@@ -8,7 +8,7 @@ ghost use Rattle.port.specs.Meaning.{Settles};
 ghost use Rattle.directory.specs.Dirs.{lineOf, found, validWays};
 ghost use Rattle.cache.specs.Showing.{reading};
 ghost use Rattle.cache.specs.Rules.{cleared, fetchTurn, finishTurn, missTurn, fillsOpen, readyTurn};
-ghost use Rattle.cache.specs.Doing.{showsBelow, tablesOf, inspectAnswer, Sound, Takes, Does};
+ghost use Rattle.cache.specs.Doing.{showsBelow, tablesOf, inspectAnswer, Sound, TakesTurn, Does};
 ghost use Rattle.cache.specs.Laws.{Caching-is-lawful};
 ghost use Rattle.cache.specs.Runs.{Only-reads-are-kept};
 use super::tables::Tables;
@@ -27,7 +27,7 @@ pub struct Cache<P: Port> {
 }
 
 impl<P: Port> Cache<P> {
-    /// Takes the cache apart. The port below is as it was, and nothing settles.
+    /// TakesTurn the cache apart. The port below is as it was, and nothing settles.
     pub fn into_below(self) -> P
         ensures { λ r. ⌜ r ≡ self .below ⌝ }
     {
@@ -40,7 +40,7 @@ impl<P: Port> Cache<P> {
         requires { ⌜ Sound (P·Port .state) (P·Port .sound) (now self) ⌝ }
         ensures sound { λ _. ⌜ Sound (P·Port .state) (P·Port .sound) (now (self .exit)) ⌝ }
         ensures after { λ _. ⌜ Settles (P·Port .state (now (self .entry) .below)) (P·Port .state (now (self .exit) .below)) ⌝ }
-        ensures did { λ _. ⌜ Takes (P·Port .does) (fetchTurn (showsBelow (P·Port .state) (now (self .entry))) (tablesOf (now (self .entry)))) (now (self .entry)) (now (self .exit)) ⌝ }
+        ensures did { λ _. ⌜ TakesTurn (P·Port .does) (fetchTurn (showsBelow (P·Port .state) (now (self .entry))) (tablesOf (now (self .entry)))) (now (self .entry)) (now (self .exit)) ⌝ }
     {
         if let Some(fill) = self.tables.fill {
             match self.below.read(fill.next_word()) {
@@ -55,7 +55,7 @@ impl<P: Port> Cache<P> {
         requires { ⌜ Sound (P·Port .state) (P·Port .sound) (now self) ⌝ }
         ensures sound { λ _. ⌜ Sound (P·Port .state) (P·Port .sound) (now (self .exit)) ⌝ }
         ensures after { λ _. ⌜ Settles (P·Port .state (now (self .entry) .below)) (P·Port .state (now (self .exit) .below)) ⌝ }
-        ensures did { λ _. ⌜ Takes (P·Port .does) (finishTurn (showsBelow (P·Port .state) (now (self .entry))) (tablesOf (now (self .entry)))) (now (self .entry)) (now (self .exit)) ⌝ }
+        ensures did { λ _. ⌜ TakesTurn (P·Port .does) (finishTurn (showsBelow (P·Port .state) (now (self .entry))) (tablesOf (now (self .entry)))) (now (self .entry)) (now (self .exit)) ⌝ }
     {
         while self.tables.is_filling() {
             self.fetch_one();
@@ -71,7 +71,7 @@ impl<P: Port> Cache<P> {
         ensures sound { λ _. ⌜ Sound (P·Port .state) (P·Port .sound) (now (self .exit)) ⌝ }
         ensures value { λ r. ⌜ r ≡ reading (showsBelow (P·Port .state) (now (self .entry))) word ⌝ }
         ensures after { λ _. ⌜ Settles (P·Port .state (now (self .entry) .below)) (P·Port .state (now (self .exit) .below)) ⌝ }
-        ensures did { λ _. ⌜ Takes (P·Port .does) (missTurn (showsBelow (P·Port .state) (now (self .entry))) (tablesOf (now (self .entry)) .dir) word) (now (self .entry)) (now (self .exit)) ⌝ }
+        ensures did { λ _. ⌜ TakesTurn (P·Port .does) (missTurn (showsBelow (P·Port .state) (now (self .entry))) (tablesOf (now (self .entry)) .dir) word) (now (self .entry)) (now (self .exit)) ⌝ }
     {
         let value = self.below.read(word)?;
         let (cacheable, protect) = self.below.marks(word / 8)?;
@@ -86,7 +86,7 @@ impl<P: Port> Cache<P> {
         requires { ⌜ Sound (P·Port .state) (P·Port .sound) (now self) ⌝ }
         ensures sound { λ _. ⌜ Sound (P·Port .state) (P·Port .sound) (now (self .exit)) ⌝ }
         ensures after { λ _. ⌜ Settles (P·Port .state (now (self .entry) .below)) (P·Port .state (now (self .exit) .below)) ⌝ }
-        ensures did { λ _. ⌜ Takes (P·Port .does) (readyTurn (showsBelow (P·Port .state) (now (self .entry))) (tablesOf (now (self .entry))) line) (now (self .entry)) (now (self .exit)) ⌝ }
+        ensures did { λ _. ⌜ TakesTurn (P·Port .does) (readyTurn (showsBelow (P·Port .state) (now (self .entry))) (tablesOf (now (self .entry))) line) (now (self .entry)) (now (self .exit)) ⌝ }
         ensures closed { λ _. ⌜ fillsOpen (now (self .exit) .tables .fill) line ≡ false ⌝ }
     {
         if self.tables.fills_open(line) {

@@ -11,6 +11,7 @@ use directory::Directory;
 use directory::Fill;
 use port::join_lanes;
 
+/// The directory, and the fill under way, if there is one.
 #[derive(Drop)]
 pub struct Tables {
     pub directory: Directory,
@@ -55,7 +56,7 @@ impl Tables {
         }
     }
 
-    /// Takes the next word of the line under fill; the eighth completes the line.
+    /// TakesTurn the next word of the line under fill; the eighth completes the line.
     pub fn stow(&mut self, mut fill: Fill, value: u16)
         requires under { ⌜ UnderWay fill ⌝ }
         requires absent { ⌜ found (model (now self) .dir) (fill .line) ≡ None ⌝ }
@@ -87,10 +88,10 @@ impl Tables {
         ensures value { λ r. ⌜ r ≡ hit (model (now (self .entry)) .dir) word ⌝ }
         ensures after { λ _. ⌜ model (now (self .exit)) ≡ touchedBy (model (now (self .entry))) word ⌝ }
     {
-        let number = self.directory.lookup(word / 8)?;
-        let way = self.directory.way(word / 8, number);
-        self.directory.touch(word / 8, number);
-        Some(way.words[(word % 8) as usize])
+        let way = self.directory.lookup(word / 8)?;
+        let held = self.directory.way(word / 8, way);
+        self.directory.touch(word / 8, way);
+        Some(held.words[(word % 8) as usize])
     }
 
     /// Changes the word's lanes where a way holds its line; that way is touched, and a protected one is not changed.

@@ -7,8 +7,8 @@ returns c =
     let d = view (c .args .self .now .directory) in
     let e = view (c .touch .last .self) in
     let f = c .args .self .now .fill in
-    let is = c .in-Continue-number .ensures tt .value in
+    let is = c .in-Continue-way .ensures tt .value in
     record {
-      value = hit-value d e f (c .args .word) (c .in-Continue-number .number) (c .way-way .result) is (c .way-way .ensures);
-      after = hit-after d e f (c .args .word) (c .in-Continue-number .number) (c .way-way .result) is (c .touch .ensures .after);
+      value = hit-value d e f (c .args .word) (c .in-Continue-way .way) (c .way-held .result) is (c .way-held .ensures);
+      after = hit-after d e f (c .args .word) (c .in-Continue-way .way) (c .way-held .result) is (c .touch .ensures .after);
     }
