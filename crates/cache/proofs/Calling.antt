@@ -14,20 +14,21 @@ use Rattle.std.specs.declared.result.Result.the-variants.{Ok, Err}
 use Rattle.fault.specs.declared.Fault.{Fault}
 use Rattle.port.specs.declared.Write.{Write}
 use Rattle.port.specs.Memory.{State, posted, outside, raised}
-use Rattle.port.specs.Meaning.{Settles, Advances, readAnswer, writeAnswer, writable, thenOk, unreadable}
-use Rattle.port.specs.Steps.{Step, reads, Chain}
+use Rattle.port.specs.Meaning.{Settles, Advances, ByAnswer, readAnswer, writeAnswer, writable, thenOk, unreadable}
+use Rattle.port.specs.Steps.{Step, reads, advances, Chain, done, then}
 use Rattle.port.proofs.Settling.{settles-then, settles-under}
 use Rattle.directory.specs.declared.fills.Fill.{Fill}
 use Rattle.directory.specs.Dirs.{Dir, lineOf, found}
 use Rattle.cache.specs.declared.cache.Cache.{Cache}
+use Rattle.cache.specs.declared.tables.Tables.{Tables}
 use Rattle.cache.specs.Showing.{Shown, shown, reading}
-use Rattle.cache.specs.Rules.{Model, Turn, turn, ifSome, finishedOf, finished, finishCalls, finishTurn, bufferedOf, hit, touchedBy, begun, readAfter, readTurn, cleared, dropped, written, fillsOpen, readyTurn}
+use Rattle.cache.specs.Rules.{Model, Turn, model, turn, ifSome, fetchTurn, finishedOf, finished, finishCalls, finishTurn, bufferedOf, hit, touchedBy, begun, readAfter, readTurn, cleared, dropped, written, fillsOpen, readyTurn, advanceTurn}
 use Rattle.cache.specs.Coherence.{Sees, Coherent}
-use Rattle.cache.specs.Doing.{TakesTurn}
-use Rattle.cache.proofs.Fetching.{shown-kept}
+use Rattle.cache.specs.Doing.{tablesOf, Sound, TakesTurn}
+use Rattle.cache.proofs.Fetching.{shown-kept, move, chain-append}
 use Rattle.cache.proofs.Reading.{hit-sees, hit-keeps, none-found, none-touched}
 use Rattle.cache.proofs.Changing.{drop-keeps, clear-keeps, outside-keeps, overwritten, shown-posted, write-keeps}
-use Rattle.cache.proofs.Checking.{InRange}
+use Rattle.cache.proofs.Checking.{Answer, InRange, as-ok, in-ok}
 
 pub takes-as : {P : Type 0} {does : P → Step → P → Type 0} {b c : Cache P} (x y : Turn) → y ≡ x → TakesTurn does x b c → TakesTurn does y b c
 takes-as {P} {does} {b} {c} x y e h = let F : Turn → Type 0 = λ z. TakesTurn does z b c in subst F (sym e) h
@@ -184,3 +185,36 @@ taken-later s t w a e = ap (λ (x : State). writable (w .word) (w .lanes) (x .fa
 
 pub inside-later : (s t : State) (w : ℕ) → Settles s t → w < s .facts .words → w < t .facts .words
 inside-later s t w a h = subst (λ (v : Shown). w < v .words) (sym (shown-kept s t a)) h
+
+-- ---- a call that is passed on: q is the port below after it, k the tables
+
+pub answer-passed : (r x y : Answer) → r ≡ x → x ≡ Ok tt → y ≡ Ok tt → r ≡ y
+answer-passed r x y e p o = e ∙ p ∙ sym o
+
+pub same-above : (s t : State) → t ≡ s → raised t ≡ raised s
+same-above s t e = ap raised e
+
+pub same-answered : (s t : State) (r x : Answer) (X Y : Type 0) → r ≡ x → x ≡ Ok tt → ByAnswer r (t ≡ s) X → ByAnswer r (raised t ≡ raised s) Y
+same-answered s t r x X Y e p a = as-ok _ Y r (e ∙ p) (ap raised (in-ok _ X r (e ∙ p) a))
+
+module _ {P : Type 0} (state : P → State) (sound : P → Type 0) (b : Cache P) (q : P) (k : Tables) (c : Sound state sound b) (h : sound q) where
+  pub sound-cleared : state q ≡ state (b .below) → model k ≡ cleared → Sound state sound (record { below = q; tables = k })
+  sound-cleared e f = record { below = h; kept = cleared-kept (state (b .below)) (state q) (model k) e f (c .kept .few) (c .kept .lined) }
+
+  pub sound-dropped : (l : ℕ) (r x : Answer) (X : Type 0) → r ≡ x → x ≡ Ok tt → ByAnswer r (state q ≡ state (b .below)) X → model k ≡ dropped (tablesOf b) l → Sound state sound (record { below = q; tables = k })
+  sound-dropped l r x X e p a f = record { below = h; kept = dropped-kept (state (b .below)) (state q) (tablesOf b) (model k) l (in-ok _ X r (e ∙ p) a) f (c .kept) }
+
+module _ {P : Type 0} (does : P → Step → P → Type 0) (d : Step) (t : Model) (b : Cache P) (q : P) (k : Tables) (f : model k ≡ t) (h : does (b .below) d q) where
+  pub takes-one : TakesTurn does (turn t (d ∷ [])) b (record { below = q; tables = k })
+  takes-one = record { tables = f; below = then h done }
+
+  pub takes-answered : (r x : Answer) (Y : Type 0) → r ≡ x → x ≡ Ok tt → ByAnswer r (TakesTurn does (turn t (d ∷ [])) b (record { below = q; tables = k })) Y
+  takes-answered r x Y e p = as-ok _ Y r (e ∙ p) takes-one
+
+-- the port below advances once a word has been fetched
+pub takes-advance : {P : Type 0} (does : P → Step → P → Type 0) (v : Shown) (t : Model) (b m : Cache P) (q : P) → TakesTurn does (fetchTurn v t) b m → does (m .below) advances q →
+    TakesTurn does (advanceTurn v t) b (record { below = q; tables = m .tables })
+takes-advance does v t b m q a h = record { tables = a .tables; below = chain-append (a .below) (then h done) }
+
+pub sound-moved : {P : Type 0} (state : P → State) (sound : P → Type 0) (m : Cache P) (q : P) → Sound state sound m → sound q → Advances (state (m .below)) (state q) → Sound state sound (record { below = q; tables = m .tables })
+sound-moved state sound m q c h a = record { below = h; kept = move (state (m .below)) (state q) (tablesOf m) (a .settles) (c .kept) }
