@@ -204,6 +204,9 @@ module _ {P : Type 0} (state : P → State) (sound : P → Type 0) (b : Cache P)
   pub sound-dropped : (l : ℕ) (r x : Answer) (X : Type 0) → r ≡ x → x ≡ Ok tt → ByAnswer r (state q ≡ state (b .below)) X → model k ≡ dropped (tablesOf b) l → Sound state sound (record { below = q; tables = k })
   sound-dropped l r x X e p a f = record { below = h; kept = dropped-kept (state (b .below)) (state q) (tablesOf b) (model k) l (in-ok _ X r (e ∙ p) a) f (c .kept) }
 
+  pub sound-outside : (w : Write) (r x : Answer) (X : Type 0) → r ≡ x → x ≡ Ok tt → ByAnswer r (state q ≡ outside w (state (b .below))) X → model k ≡ dropped (tablesOf b) (lineOf (w .word)) → Sound state sound (record { below = q; tables = k })
+  sound-outside w r x X e p a f = record { below = h; kept = outside-kept (state (b .below)) (state q) (tablesOf b) (model k) w (in-ok _ X r (e ∙ p) a) f (c .kept) }
+
 module _ {P : Type 0} (does : P → Step → P → Type 0) (d : Step) (t : Model) (b : Cache P) (q : P) (k : Tables) (f : model k ≡ t) (h : does (b .below) d q) where
   pub takes-one : TakesTurn does (turn t (d ∷ [])) b (record { below = q; tables = k })
   takes-one = record { tables = f; below = then h done }
