@@ -8,3 +8,4 @@ pub mod Checking
 pub mod Calling
 pub mod Lawful
 pub mod Passing
+pub mod Trying

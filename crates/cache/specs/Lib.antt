@@ -4,3 +4,4 @@ pub mod Coherence
 pub mod Doing
 pub mod Laws
 pub mod Runs
+pub mod Examples

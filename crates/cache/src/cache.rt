@@ -10,6 +10,7 @@ ghost use Rattle.cache.specs.Showing.{reading};
 ghost use Rattle.cache.specs.Rules.{cleared, fetchTurn, finishTurn, missTurn, fillsOpen, readyTurn};
 ghost use Rattle.cache.specs.Doing.{showsBelow, tablesOf, inspectAnswer, Sound, TakesTurn, Does};
 ghost use Rattle.cache.specs.Laws.{Caching-is-lawful};
+ghost use Rattle.cache.specs.Examples.{Worked-examples};
 ghost use Rattle.cache.specs.Runs.{Only-reads-are-kept};
 use super::tables::Tables;
 use directory::WayState;
@@ -103,6 +104,7 @@ impl<P: Port> Cache<P> {
         ensures below { λ r. ⌜ r .below ≡ below ⌝ }
         ensures tables { λ r. ⌜ tablesOf r ≡ cleared ⌝ }
         ensures law { λ _. ⌜ Caching-is-lawful ⌝ }
+        ensures examples { λ _. ⌜ Worked-examples ⌝ }
         ensures run { λ _. ⌜ Only-reads-are-kept (P·Port .state) (P·Port .does) ⌝ }
     {
         // A port tells with its size that it consists of whole lines, which the tables rest on.

@@ -2,6 +2,7 @@ use mathlib.Core.Path.{refl}
 use native.Mathlib.Omega.{arith}
 use Rattle.cache.proofs.Calling.{cleared-kept}
 use Rattle.cache.proofs.Lawful.{caching-is-lawful}
+use Rattle.cache.proofs.Trying.{worked-examples}
 use Rattle.cache.proofs.Passing.{only-reads-are-kept}
 use Rattle.cache.proofs.cache.Cache.new.Needs as need
 
@@ -13,5 +14,6 @@ returns g c =
       below = refl;
       tables = c .new .ensures;
       law = caching-is-lawful;
+      examples = worked-examples;
       run = only-reads-are-kept (g .P·Port .state) (g .P·Port .does);
     }
