@@ -1,7 +1,7 @@
 -- The calls of a cache as a port, over plain values.
 use mathlib.Core.Path.{_≡_, refl, sym, _∙_, ap, ap₂, subst}
 use mathlib.Core.Logic.{_⊎_, inl, inr}
-use mathlib.Core.Bool.{Bool, true, false, cond}
+use mathlib.Core.Bool.{true, false}
 use mathlib.Core.List.{List, [], _∷_, _++_}
 use Prim.Native.Nat.{ℕ, zero, suc, _%_, _<_, _≤_}
 use native.Mathlib.Omega.{arith}
@@ -15,7 +15,7 @@ use Rattle.fault.specs.declared.Fault.{Fault}
 use Rattle.port.specs.declared.Write.{Write}
 use Rattle.port.specs.Memory.{State, posted, outside, raised}
 use Rattle.port.specs.Meaning.{Settles, Advances, ByAnswer, readAnswer, writeAnswer, writable, thenOk, unreadable}
-use Rattle.port.specs.Steps.{Step, reads, advances, Chain, done, then}
+use Rattle.port.specs.Steps.{Step, reads, advances, done, then}
 use Rattle.port.proofs.Settling.{settles-then, settles-under}
 use Rattle.directory.specs.declared.fills.Fill.{Fill}
 use Rattle.directory.specs.Dirs.{Dir, lineOf, found}
@@ -26,7 +26,7 @@ use Rattle.cache.specs.Rules.{Model, Turn, model, turn, ifSome, fetchTurn, fin
 use Rattle.cache.specs.Coherence.{Sees, Coherent}
 use Rattle.cache.specs.Doing.{tablesOf, Sound, TakesTurn}
 use Rattle.cache.proofs.Fetching.{shown-kept, move, chain-append}
-use Rattle.cache.proofs.Reading.{hit-sees, hit-keeps, none-found, none-touched}
+use Rattle.cache.proofs.Reading.{hit-keeps, none-found, none-touched}
 use Rattle.cache.proofs.Changing.{drop-keeps, clear-keeps, outside-keeps, overwritten, shown-posted, write-keeps}
 use Rattle.cache.proofs.Checking.{Answer, InRange, as-ok, in-ok}
 

@@ -1,33 +1,33 @@
 -- What keeps the tables coherent when a line leaves them, or when the memory below changes.
-use mathlib.Core.Path.{_≡_, refl, sym, _∙_, ap, ap₂, subst}
+use mathlib.Core.Path.{_≡_, refl, sym, _∙_, ap, subst}
 use mathlib.Core.Logic.{_≢_, inl, inr}
 use mathlib.Core.Bool.{Bool, true, false, cond, not, _&&_}
-use mathlib.Core.List.{List, [], _∷_, _++_}
+use mathlib.Core.List.{List, [], _∷_}
 use Prim.Native.Nat.{ℕ, _+_, _*_, _/_, _%_, _<_, _≤_}
 use native.Mathlib.Omega.{arith}
 use lib.Dec.{eqb}
 use lib.ListN.{getD, set}
-use Rattle.std.proofs.shelf.Tests.{cases-eq, cases-bool, ne-eqb, eqb-true, eq-eqb, eqb-false, both-ways, and-parts, and-from, and-cases, cond-true, cond-false, not-false}
+use Rattle.std.proofs.shelf.Tests.{ne-eqb, eqb-true, eq-eqb, eqb-false, both-ways, and-parts, and-from, and-cases, cond-true, cond-false, not-false}
 use Rattle.std.specs.declared.option.Option.{Option}
 use Rattle.std.specs.declared.option.Option.the-variants.{Some, None}
 use Rattle.port.specs.declared.Write.{Write}
 use Rattle.port.specs.Lanes.{joined}
-use Rattle.port.specs.Memory.{State, Memory, seen, stored, applied, posted, outside}
+use Rattle.port.specs.Memory.{State, Memory, stored, applied, posted, outside}
 use Rattle.port.proofs.Settling.{applied-append}
 use Rattle.directory.specs.declared.marks.WayNumber.{WayNumber}
 use Rattle.directory.specs.declared.sets.Way.{Way}
 use Rattle.directory.specs.declared.fills.Fill.{Fill}
 use Rattle.directory.specs.Touch.{indexOf, sameWay}
-use Rattle.directory.specs.Sets.{emptyWay, wordedWay, masked}
-use Rattle.directory.specs.Dirs.{Dir, lineOf, placeOf, setOf, tagOf, put, touched, holds, found, changed, droppedOf}
+use Rattle.directory.specs.Sets.{emptyWay, wordedWay}
+use Rattle.directory.specs.Dirs.{Dir, lineOf, placeOf, setOf, tagOf, touched, holds, found, changed, droppedOf}
 use Rattle.directory.specs.Dirs.{dropped as droppedDir}
 use Rattle.directory.specs.Ticks.{ticked, fetchedWord}
 use Rattle.directory.specs.Laws.{Tags-are-apart}
 use Rattle.directory.proofs.Apart.{held, finds, apart-emptied, drop-forgets, apart-dropped, apart-changed, change-moves-none}
-use Rattle.cache.specs.Showing.{Shown, shown, shownAs, lineSeen, whole, allBelow}
-use Rattle.cache.specs.Rules.{Model, idle, cleared, leftOf, dropped, changedWord, changedOf, written, fillsOpen}
-use Rattle.cache.specs.Coherence.{lineIn, WayKept, Filling, FillKept, Coherent}
-use Rattle.cache.proofs.Lines.{eight-at, eight-ext, eight-set, line-word, line-set}
+use Rattle.cache.specs.Showing.{Shown, shown, shownAs, lineSeen, allBelow}
+use Rattle.cache.specs.Rules.{Model, cleared, leftOf, dropped, changedWord, changedOf, written, fillsOpen}
+use Rattle.cache.specs.Coherence.{lineIn, WayKept, FillKept, Coherent}
+use Rattle.cache.proofs.Lines.{eight-at, eight-ext, eight-set, line-word}
 use Rattle.cache.proofs.Keeping.{ways-put, touch}
 use Rattle.cache.proofs.Reading.{held-line}
 

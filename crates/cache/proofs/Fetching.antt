@@ -2,7 +2,7 @@
 use mathlib.Core.Path.{_≡_, refl, sym, _∙_, ap, ap₂, subst}
 use mathlib.Core.Bool.{Bool, true, false, cond}
 use mathlib.Core.List.{List, [], _∷_, _++_}
-use Prim.Native.Nat.{ℕ, zero, suc, _+_, _-_, _<_, _≤_}
+use Prim.Native.Nat.{ℕ, zero, suc, _+_, _-_, _<_}
 use native.Mathlib.Omega.{arith}
 use lib.Dec.{ltb}
 use lib.Count.{ones}
@@ -13,13 +13,13 @@ use Rattle.std.specs.declared.option.Option.the-variants.{Some, None}
 use Rattle.std.specs.declared.result.Result.{Result}
 use Rattle.std.specs.declared.result.Result.the-variants.{Ok, Err}
 use Rattle.fault.specs.declared.Fault.{Fault}
-use Rattle.port.specs.Memory.{State, seen}
+use Rattle.port.specs.Memory.{State}
 use Rattle.port.specs.Meaning.{Settles, readAnswer, thenOk, within, unreadable, pastEnd}
 use Rattle.port.specs.Steps.{Step, reads, Chain, done, then}
 use Rattle.port.proofs.Settling.{seen-kept}
 use Rattle.directory.specs.declared.fills.Fill.{Fill}
-use Rattle.directory.specs.Dirs.{Dir, found, installed}
-use Rattle.directory.specs.Ticks.{nextWord, complete, stored, UnderWay}
+use Rattle.directory.specs.Dirs.{Dir, installed}
+use Rattle.directory.specs.Ticks.{nextWord, complete, stored}
 use Rattle.cache.specs.Showing.{Shown, shown, shownAs, reading}
 use Rattle.cache.specs.Rules.{Model, idle, stowed, fetchedOf, fetched, fetchCalls, finishedOf, finished, lacking, fetches, finishCalls}
 use Rattle.cache.specs.Coherence.{Sees, Filling, FillKept, Coherent}

@@ -1,29 +1,29 @@
 -- What keeps the tables coherent while the memory below stays as it is seen.
-use mathlib.Core.Path.{_≡_, refl, sym, _∙_, ap, ap₂, subst}
-use mathlib.Core.Logic.{_≢_, inl, inr}
-use mathlib.Core.Bool.{Bool, true, false, cond, _&&_, _||_}
-use mathlib.Core.List.{List, [], _∷_}
-use Prim.Native.Nat.{ℕ, zero, suc, _+_, _-_, _*_, _/_, _%_, _<_, _≤_}
+use mathlib.Core.Path.{_≡_, refl, sym, _∙_, ap, subst}
+use mathlib.Core.Logic.{inl, inr}
+use mathlib.Core.Bool.{Bool, true, false, cond, _&&_}
+use mathlib.Core.List.{List}
+use Prim.Native.Nat.{ℕ, _+_, _-_, _*_, _<_, _≤_}
 use native.Mathlib.Omega.{arith}
 use lib.Dec.{eqb}
 use lib.Count.{ones}
-use lib.ListN.{length, getD, set}
-use Rattle.std.proofs.shelf.Tests.{cases-eq, cases-bool, eq-eqb, eqb-true, eqb-false, and-parts, and-from, cond-true, cond-false, both-ways}
+use lib.ListN.{getD, set}
+use Rattle.std.proofs.shelf.Tests.{cases-eq, eq-eqb, eqb-true, eqb-false, and-parts, and-from, cond-true}
 use Rattle.std.specs.declared.option.Option.{Option}
 use Rattle.std.specs.declared.option.Option.the-variants.{Some, None}
 use Rattle.directory.specs.declared.marks.WayNumber.{WayNumber}
 use Rattle.directory.specs.declared.sets.Way.{Way}
 use Rattle.directory.specs.declared.fills.Fill.{Fill}
-use Rattle.directory.specs.Touch.{indexOf, sameWay, victimOf}
+use Rattle.directory.specs.Touch.{indexOf, sameWay}
 use Rattle.directory.specs.Sets.{filledWay, masked}
-use Rattle.directory.specs.Dirs.{Dir, lineOf, placeOf, setOf, tagOf, put, touched, holds, found, installed}
-use Rattle.directory.specs.Ticks.{ticked, ticksAfter, nextPlace, nextWord, complete, starting, stored, fetchedWord, UnderWay}
-use Rattle.directory.proofs.Apart.{apart-installed, held}
+use Rattle.directory.specs.Dirs.{Dir, lineOf, placeOf, setOf, tagOf, put, touched, found, installed}
+use Rattle.directory.specs.Ticks.{ticked, ticksAfter, nextPlace, nextWord, complete, stored, fetchedWord}
+use Rattle.directory.proofs.Apart.{apart-installed}
 use Rattle.directory.proofs.Touching.{index-injective}
 use Rattle.directory.proofs.Ticking.{next-small, stored-count, stored-ordered, store-adds, ticked-all}
 use Rattle.cache.specs.Showing.{Shown, lineSeen, whole}
-use Rattle.cache.specs.Rules.{Model, idle, stowed, fetchedOf, fetched, finishedOf, finished, lacking}
-use Rattle.cache.specs.Coherence.{lineIn, Sees, WayKept, Filling, FillKept, Coherent}
+use Rattle.cache.specs.Rules.{idle, stowed, fetchedOf, finishedOf, finished}
+use Rattle.cache.specs.Coherence.{Sees, WayKept, Filling, FillKept, Coherent}
 use Rattle.cache.proofs.Lines.{eight-is, all-from, not-all, line-set}
 
 -- the numbers of two ways are the same, and so are the ways

@@ -1,20 +1,17 @@
 -- The laws of the rules.
-use mathlib.Core.Path.{_≡_, refl, sym, _∙_, ap, subst}
-use mathlib.Core.Logic.{_≢_}
+use mathlib.Core.Path.{_≡_, refl, sym, _∙_, ap}
 use mathlib.Core.Bool.{Bool, true, false, cond, _&&_}
-use Prim.Native.Nat.{ℕ, zero, suc, _-_, _<_, _≤_}
+use Prim.Native.Nat.{ℕ, zero, suc, _-_, _≤_}
 use native.Mathlib.Omega.{arith}
-use lib.Count.{ones}
 use Rattle.std.specs.declared.option.Option.{Option}
 use Rattle.std.specs.declared.option.Option.the-variants.{Some, None}
 use Rattle.directory.specs.declared.marks.WayNumber.{WayNumber}
 use Rattle.directory.specs.declared.fills.Fill.{Fill}
-use Rattle.directory.specs.Touch.{victimOf}
-use Rattle.directory.specs.Dirs.{Dir, lineOf, setOf, found, installed, droppedOf}
+use Rattle.directory.specs.Dirs.{Dir, lineOf, found, installed, droppedOf}
 use Rattle.directory.specs.Ticks.{nextWord, complete, stored}
 use Rattle.directory.proofs.Apart.{drop-forgets}
 use Rattle.cache.specs.Showing.{Shown}
-use Rattle.cache.specs.Rules.{Model, idle, stowed, fetchedOf, fetched, finishedOf, finished, lacking, begunFill, begun, dropped}
+use Rattle.cache.specs.Rules.{Model, idle, stowed, fetchedOf, finishedOf, lacking, begunFill, begun, dropped}
 use Rattle.cache.specs.Coherence.{Coherent}
 use Rattle.cache.specs.Laws.{Named-at-the-miss, Same-line-and-way, Line-is-gone, fetchedTimes, Caching-is-lawful}
 use Rattle.cache.proofs.Keeping.{fetch-keeps, fetch-finishes}

@@ -1,17 +1,16 @@
 -- Whatever is no read goes through a cache.
 use mathlib.Core.Path.{_≡_, refl, sym, _∙_, ap, ap₂, subst}
 use mathlib.Core.Bool.{Bool, true, false, cond}
-use mathlib.Core.List.{List, [], _∷_, _++_, append-assoc, append-nil}
+use mathlib.Core.List.{List, [], _∷_, _++_, append-assoc}
 use Prim.Native.Nat.{ℕ, zero, suc}
 use Rattle.std.specs.declared.option.Option.{Option}
 use Rattle.std.specs.declared.option.Option.the-variants.{Some, None}
 use Rattle.std.specs.declared.result.Result.{Result}
 use Rattle.std.specs.declared.result.Result.the-variants.{Ok, Err}
 use Rattle.fault.specs.declared.Fault.{Fault}
-use Rattle.port.specs.declared.Write.{Write}
 use Rattle.port.specs.Memory.{State}
 use Rattle.port.specs.Meaning.{within, ByAnswer}
-use Rattle.port.specs.Steps.{Step, reads, writes, advances, outsides, snoops, flushes, Chain, done, then}
+use Rattle.port.specs.Steps.{Step, reads, writes, advances, outsides, snoops, flushes, done, then}
 use Rattle.directory.specs.declared.fills.Fill.{Fill}
 use Rattle.directory.specs.Dirs.{lineOf}
 use Rattle.cache.specs.declared.cache.Cache.{Cache}

@@ -1,33 +1,31 @@
 -- What a read answers, and what it leaves.
 use mathlib.Core.Path.{_≡_, refl, sym, _∙_, ap, ap₂, subst}
-use mathlib.Core.Logic.{inl, inr}
 use mathlib.Core.Bool.{Bool, true, false, cond, _&&_}
-use mathlib.Core.List.{List, [], _∷_, _++_}
-use Prim.Native.Nat.{ℕ, zero, suc, _+_, _*_, _/_, _%_, _<_, _≤_}
+use mathlib.Core.List.{List}
+use Prim.Native.Nat.{ℕ, zero, suc, _+_, _*_, _/_, _<_}
 use native.Mathlib.Omega.{arith}
 use lib.Dec.{eqb}
 use lib.Bits.{bitXor}
 use lib.Count.{ones, onesIn}
 use lib.ListN.{getD}
-use Rattle.std.proofs.shelf.Tests.{eqb-true, both-ways, and-parts, and-right, cond-true, cond-false}
+use Rattle.std.proofs.shelf.Tests.{eqb-true, and-parts, and-right, cond-false}
 use Rattle.std.specs.declared.option.Option.{Option}
 use Rattle.std.specs.declared.option.Option.the-variants.{Some, None}
 use Rattle.std.specs.declared.result.Result.{Result}
 use Rattle.std.specs.declared.result.Result.the-variants.{Ok, Err}
 use Rattle.fault.specs.declared.Fault.{Fault}
-use Rattle.port.specs.Memory.{State, Facts, Memory, seen}
-use Rattle.port.specs.Meaning.{Settles, marksAnswer, within, thenOk, pastEnd, unreadable}
-use Rattle.port.specs.Steps.{Step, reads, Chain}
+use Rattle.port.specs.Memory.{State}
+use Rattle.port.specs.Meaning.{Settles, marksAnswer, within, thenOk}
 use Rattle.directory.specs.declared.marks.WayNumber.{WayNumber}
 use Rattle.directory.specs.declared.sets.Way.{Way}
 use Rattle.directory.specs.declared.fills.Fill.{Fill}
 use Rattle.directory.specs.Touch.{victimOf}
-use Rattle.directory.specs.Dirs.{Dir, lineOf, placeOf, setOf, tagOf, touched, holds, found}
-use Rattle.directory.specs.Ticks.{ticked, nextPlace, nextWord, starting, stored, fetchedWord, UnderWay}
+use Rattle.directory.specs.Dirs.{Dir, lineOf, placeOf, setOf, tagOf, holds, found}
+use Rattle.directory.specs.Ticks.{ticked, nextWord, starting, stored, fetchedWord}
 use Rattle.directory.proofs.Apart.{held}
 use Rattle.directory.proofs.Ticking.{starts}
-use Rattle.cache.specs.Showing.{Shown, shown, reading, lineSeen, whole}
-use Rattle.cache.specs.Rules.{Model, Turn, turn, idle, bufferedOf, hitOf, hit, touchedOf, touchedBy, begunFill, begun}
+use Rattle.cache.specs.Showing.{Shown, shown, reading}
+use Rattle.cache.specs.Rules.{Model, idle, bufferedOf, hitOf, hit, touchedOf, touchedBy, begunFill, begun}
 use Rattle.cache.specs.Coherence.{lineIn, Sees, WayKept, Filling, FillKept, Coherent}
 use Rattle.cache.proofs.Lines.{eight-at, all-at, line-word, line-set, line-inside}
 use Rattle.cache.proofs.Keeping.{touch, abandon, filling-more, count-more}

@@ -1,11 +1,10 @@
 -- What a cache means, and what its calls do: to its tables, and by which calls to the port below.
 use mathlib.Core.Path.{_≡_}
-use mathlib.Core.List.{List, [], _∷_}
+use mathlib.Core.List.{[], _∷_}
 use Prim.Native.Nat.{ℕ}
 use Rattle.std.specs.declared.result.Result.{Result}
 use Rattle.std.specs.declared.result.Result.the-variants.{Ok, Err}
 use Rattle.fault.specs.declared.Fault.{Fault}
-use Rattle.port.specs.declared.Write.{Write}
 use Rattle.port.specs.Memory.{State}
 use Rattle.port.specs.Meaning.{pastEnd, within, ByAnswer}
 use Rattle.port.specs.Steps.{Step, reads, writes, advances, outsides, snoops, flushes, Chain}

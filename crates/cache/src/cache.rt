@@ -1,7 +1,7 @@
 //! The stage itself: tables over any port, which is a port again.
 ghost use mathlib.Core.Path.{_≡_};
 ghost use mathlib.Core.Bool.{false};
-ghost use Prim.Native.Nat.{ℕ, _<_, _≤_};
+ghost use Prim.Native.Nat.{_<_, _≤_};
 ghost use Rattle.std.specs.declared.option.Option.the-variants.{None};
 ghost use Rattle.port.specs.Memory.{floorAbove, raised};
 ghost use Rattle.port.specs.Meaning.{Settles};

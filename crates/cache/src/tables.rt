@@ -1,6 +1,5 @@
 //! The tables of a cache: the directory, and the line buffer with the fill under way.
 ghost use mathlib.Core.Path.{_≡_};
-ghost use Prim.Native.Nat.{ℕ};
 ghost use Rattle.std.specs.Options.{isSome};
 ghost use Rattle.std.specs.declared.option.Option.the-variants.{Some, None};
 ghost use Rattle.port.specs.Meaning.{writing};

@@ -1,7 +1,7 @@
-use mathlib.Core.Path.{_≡_, refl, sym, ap, _∙_}
+use mathlib.Core.Path.{refl}
 use mathlib.Core.List.{[], _∷_, _++_}
 use Rattle.std.specs.declared.option.Option.the-variants.{Some, None}
-use Rattle.port.specs.Steps.{reads, done, then}
+use Rattle.port.specs.Steps.{reads, done}
 use Rattle.port.proofs.Settling.{settles-none, settles-then, readable-kept}
 use Rattle.cache.specs.Showing.{shown, reading}
 use Rattle.cache.specs.Rules.{model, turn, finished, finishCalls, touchedBy, begun}

@@ -1,6 +1,5 @@
-use mathlib.Core.Path.{_≡_, sym, ap, subst, _∙_}
-use Rattle.port.specs.Memory.{State, Facts}
-use Rattle.port.specs.Meaning.{writing, writeAnswer}
+use mathlib.Core.Path.{sym, ap, _∙_}
+use Rattle.port.specs.Meaning.{writing}
 use Rattle.port.specs.Steps.{done, then}
 use Rattle.cache.specs.Rules.{Model, model, written}
 use Rattle.cache.proofs.Fetching.{chain-append}
