@@ -6,6 +6,8 @@ use banks::RamBank;
 use banks::RamPort;
 use board::Answer;
 use board::run;
+use cache::Cache;
+use cache::CachePort;
 use calls::Call;
 use calls::ListError;
 use calls::read_list;
@@ -101,7 +103,7 @@ fn run_list<P: Port + Drop>(rt: &LibcRuntime, memory: P, list: &[u8]) -> io::Res
     let words = memory.words();
     println!(rt, "board {words} words")?;
     match read_list(rt.alloc(), list) {
-        Ok(calls) => run_calls(rt, WriteBuffer::new(memory), &calls),
+        Ok(calls) => run_calls(rt, Cache::new(WriteBuffer::new(memory)), &calls),
         Err(ListError::Refused(fault)) => {
             let refusal = fault.refusal;
             let place = fault.place;
