@@ -78,8 +78,8 @@ fn print_size(rt: &HostRuntime, what: &str, answer: Result<u32, Fault>) -> io::R
 
 // Reads and writes about the end and by all lanes.
 fn try_words<P: Port>(rt: &HostRuntime, port: &mut P) -> io::Result<()>
-    requires { P.Port.sound port.old }
-    ensures { P.Port.sound port.new }
+    requires { P.sound port.old }
+    ensures { P.sound port.new }
 {
     print_word(rt, "read 16895", port.read(16_895))?;
     print_word(rt, "read 16896", port.read(16_896))?;
@@ -101,7 +101,7 @@ fn try_words<P: Port>(rt: &HostRuntime, port: &mut P) -> io::Result<()>
 
 // The other calls and questions.
 fn try_others<P: Port>(rt: &HostRuntime, port: &mut P) -> io::Result<()>
-    requires { P.Port.sound port.old }
+    requires { P.sound port.old }
 {
     print_word(rt, "settled read 37", port.settled_read(37))?;
     print_word(rt, "settled read 16896", port.settled_read(16_896))?;
@@ -129,7 +129,7 @@ fn try_others<P: Port>(rt: &HostRuntime, port: &mut P) -> io::Result<()>
 }
 
 fn try_port<P: Port>(rt: &HostRuntime, name: &str, port: &mut P) -> io::Result<()>
-    requires { P.Port.sound port.old }
+    requires { P.sound port.old }
 {
     let words = port.words();
     let floor = port.floor();

@@ -33,8 +33,8 @@ fn print_way(rt: &HostRuntime, line: u32, way: Option<u32>) -> io::Result<()> {
 
 // Begins a fill with a read, and lets it go on for some steps.
 fn fill_from<P: Port>(board: &mut Board<P>, word: u32, steps: u32)
-    requires { P.Port.sound board.old.port }
-    ensures { P.Port.sound board.new.port }
+    requires { P.sound board.old.port }
+    ensures { P.sound board.new.port }
 {
     let _ = board.call(Call::Read(word));
     for _ in 0..steps {
@@ -44,8 +44,8 @@ fn fill_from<P: Port>(board: &mut Board<P>, word: u32, steps: u32)
 
 // Lets all writes settle.
 fn settle<P: Port>(board: &mut Board<P>)
-    requires { P.Port.sound board.old.port }
-    ensures { P.Port.sound board.new.port }
+    requires { P.sound board.old.port }
+    ensures { P.sound board.new.port }
 {
     let _ = board.call(Call::Lock);
     let _ = board.call(Call::Unlock);
@@ -54,8 +54,8 @@ fn settle<P: Port>(board: &mut Board<P>)
 // Whether the cache holds a word after some steps of a fill from another. A write that waits in the buffer shows it: a read
 // that is not answered by the cache goes below, and sends the write on.
 fn is_held<P: Port>(board: &mut Board<P>, first: u32, steps: u32, word: u32) -> bool
-    requires { P.Port.sound board.old.port }
-    ensures { P.Port.sound board.new.port }
+    requires { P.sound board.old.port }
+    ensures { P.sound board.new.port }
 {
     let _ = board.call(Call::Flush);
     settle(board);
@@ -67,8 +67,8 @@ fn is_held<P: Port>(board: &mut Board<P>, first: u32, steps: u32, word: u32) -> 
 
 // The place in a line that a step of a fill brings: held after the step, and not before it.
 fn place_at_step<P: Port>(board: &mut Board<P>, line: u32, first: u32, step: u32) -> Option<u32>
-    requires { P.Port.sound board.old.port }
-    ensures { P.Port.sound board.new.port }
+    requires { P.sound board.old.port }
+    ensures { P.sound board.new.port }
 {
     for place in 0..8u32 {
         let word = line.wrapping_mul(8).wrapping_add(place);
@@ -82,7 +82,7 @@ fn place_at_step<P: Port>(board: &mut Board<P>, line: u32, first: u32, step: u32
 
 // The set and the tag of the first valid way.
 fn first_valid<P: Port>(cache: &Cache<P>) -> Option<(u32, u32)>
-    requires { Sound P.Port.state P.Port.sound cache.now }
+    requires { Sound P.state P.sound cache.now }
 {
     for set in 0..256u32 {
         for way in 0..4u32 {
@@ -98,7 +98,7 @@ fn first_valid<P: Port>(cache: &Cache<P>) -> Option<(u32, u32)>
 
 // The way that holds a line.
 fn way_of<P: Port>(cache: &Cache<P>, line: u32) -> Option<u32>
-    requires { Sound P.Port.state P.Port.sound cache.now }
+    requires { Sound P.state P.sound cache.now }
 {
     let at = locate(line.wrapping_mul(8));
     for way in 0..4u32 {
@@ -113,8 +113,8 @@ fn way_of<P: Port>(cache: &Cache<P>, line: u32) -> Option<u32>
 
 // Where the cache keeps the line of word 20,003, and at which place of it a fill from that word begins.
 fn try_where<P: Port>(rt: &HostRuntime, board: &mut Board<Cache<P>>) -> io::Result<()>
-    requires { Sound P.Port.state P.Port.sound board.old.port }
-    ensures { Sound P.Port.state P.Port.sound board.new.port }
+    requires { Sound P.state P.sound board.old.port }
+    ensures { Sound P.state P.sound board.new.port }
 {
     let _ = board.call(Call::Flush);
     fill_from(board, 20_003, 7);
@@ -134,8 +134,8 @@ fn try_lines<P: Port>(
     board: &mut Board<Cache<P>>,
     lines: &[u32],
 ) -> io::Result<()>
-    requires { Sound P.Port.state P.Port.sound board.old.port }
-    ensures { Sound P.Port.state P.Port.sound board.new.port }
+    requires { Sound P.state P.sound board.old.port }
+    ensures { Sound P.state P.sound board.new.port }
 {
     let _ = board.call(Call::Flush);
     for line in lines {
@@ -147,8 +147,8 @@ fn try_lines<P: Port>(
 
 // After four lines of a set a snoop drops line 256, and line 1,024 is filled.
 fn try_snoop<P: Port>(rt: &HostRuntime, board: &mut Board<Cache<P>>) -> io::Result<()>
-    requires { Sound P.Port.state P.Port.sound board.old.port }
-    ensures { Sound P.Port.state P.Port.sound board.new.port }
+    requires { Sound P.state P.sound board.old.port }
+    ensures { Sound P.state P.sound board.new.port }
 {
     println!(rt; "four lines filled after a flush:")?;
     try_lines(rt, board, &FIVE_LINES[..4])?;
@@ -160,8 +160,8 @@ fn try_snoop<P: Port>(rt: &HostRuntime, board: &mut Board<Cache<P>>) -> io::Resu
 
 // The places that a fill from place 5 of line 2,500 brings, step by step.
 fn try_order<P: Port>(rt: &HostRuntime, board: &mut Board<P>) -> io::Result<()>
-    requires { P.Port.sound board.old.port }
-    ensures { P.Port.sound board.new.port }
+    requires { P.sound board.old.port }
+    ensures { P.sound board.new.port }
 {
     print!(rt; "fill from place 5:")?;
     for step in 0..8u32 {
@@ -175,7 +175,7 @@ fn try_order<P: Port>(rt: &HostRuntime, board: &mut Board<P>) -> io::Result<()>
 
 // The cards of the cache, on a board over a cache over a buffer.
 fn try_cache<P: Port + Drop>(rt: &HostRuntime, memory: P) -> io::Result<()>
-    requires { P.Port.sound memory }
+    requires { P.sound memory }
 {
     let mut board = Board::new(Cache::new(WriteBuffer::new(memory)));
     try_where(rt, &mut board)?;
@@ -198,8 +198,8 @@ fn try_lanes<P: Port>(
     what: &str,
     lanes: u8,
 ) -> io::Result<()>
-    requires { P.Port.sound board.old.port }
-    ensures { P.Port.sound board.new.port }
+    requires { P.sound board.old.port }
+    ensures { P.sound board.new.port }
 {
     let _ = board.call(Call::Unposted(write_of(2, 3, 0x1234)));
     let _ = board.call(Call::Write(write_of(2, lanes, 0xabcd)));
@@ -208,8 +208,8 @@ fn try_lanes<P: Port>(
 
 // Writes a value to a word, and prints how many writes wait then.
 fn post<P: Port>(rt: &HostRuntime, board: &mut Board<P>, word: u32, value: u16) -> io::Result<()>
-    requires { P.Port.sound board.old.port }
-    ensures { P.Port.sound board.new.port }
+    requires { P.sound board.old.port }
+    ensures { P.sound board.new.port }
 {
     let _ = board.call(Call::Write(write_of(word, 3, value)));
     let waiting = board.waiting();
@@ -218,8 +218,8 @@ fn post<P: Port>(rt: &HostRuntime, board: &mut Board<P>, word: u32, value: u16) 
 
 // Prints a word as the display unit sees it, which reads settled memory.
 fn print_settled<P: Port>(rt: &HostRuntime, board: &mut Board<P>, word: u32) -> io::Result<()>
-    requires { P.Port.sound board.old.port }
-    ensures { P.Port.sound board.new.port }
+    requires { P.sound board.old.port }
+    ensures { P.sound board.new.port }
 {
     match board.master_cycle(word) {
         Ok(value) => println!(rt; "  settled word {word}: {value:04X}"),
@@ -229,8 +229,8 @@ fn print_settled<P: Port>(rt: &HostRuntime, board: &mut Board<P>, word: u32) -> 
 
 // Four writes wait, and the fifth sends the first below.
 fn try_five_writes<P: Port>(rt: &HostRuntime, board: &mut Board<P>) -> io::Result<()>
-    requires { P.Port.sound board.old.port }
-    ensures { P.Port.sound board.new.port }
+    requires { P.sound board.old.port }
+    ensures { P.sound board.new.port }
 {
     println!(rt; "five writes:")?;
     settle(board);
@@ -246,8 +246,8 @@ fn try_five_writes<P: Port>(rt: &HostRuntime, board: &mut Board<P>) -> io::Resul
 
 // A write that waits is seen by the processor, and has not settled.
 fn try_seen<P: Port>(rt: &HostRuntime, board: &mut Board<P>) -> io::Result<()>
-    requires { P.Port.sound board.old.port }
-    ensures { P.Port.sound board.new.port }
+    requires { P.sound board.old.port }
+    ensures { P.sound board.new.port }
 {
     println!(rt; "settled and seen:")?;
     settle(board);
@@ -258,8 +258,8 @@ fn try_seen<P: Port>(rt: &HostRuntime, board: &mut Board<P>) -> io::Result<()>
 
 // A byte waits over 1111, and then the display unit writes 3333.
 fn try_overtaken<P: Port>(rt: &HostRuntime, board: &mut Board<P>) -> io::Result<()>
-    requires { P.Port.sound board.old.port }
-    ensures { P.Port.sound board.new.port }
+    requires { P.sound board.old.port }
+    ensures { P.sound board.new.port }
 {
     println!(rt; "low byte of 0022 waiting over 1111, then 3333 from the display unit:")?;
     let _ = board.call(Call::Unposted(write_of(24, 3, 0x1111)));
@@ -272,8 +272,8 @@ fn try_overtaken<P: Port>(rt: &HostRuntime, board: &mut Board<P>) -> io::Result<
 
 // The ends of the card's memory, and lanes that there are not.
 fn try_ends<P: Port>(rt: &HostRuntime, board: &mut Board<P>) -> io::Result<()>
-    requires { P.Port.sound board.old.port }
-    ensures { P.Port.sound board.new.port }
+    requires { P.sound board.old.port }
+    ensures { P.sound board.new.port }
 {
     let words = board.words();
     println!(rt; "the card's {words} words:")?;
@@ -289,7 +289,7 @@ fn try_ends<P: Port>(rt: &HostRuntime, board: &mut Board<P>) -> io::Result<()>
 
 // The cards of the write buffer and of lanes, on a board over a cache over a buffer.
 fn try_writes<P: Port + Drop>(rt: &HostRuntime, memory: P) -> io::Result<()>
-    requires { P.Port.sound memory }
+    requires { P.sound memory }
 {
     let mut board = Board::new(Cache::new(WriteBuffer::new(memory)));
     println!(rt; "ABCD over 1234:")?;

@@ -57,11 +57,11 @@ fn worded(answer: Result<u16, Fault>) -> Result<Answer, Fault>
 
 // A write that has settled, with all that waited before it, when the call returns.
 fn write_through<P: Port>(port: &mut P, store: Store) -> Result<(), Fault>
-    requires { P.Port.sound port.old }
-    ensures sound { P.Port.sound port.new }
-    ensures value { result ≡ write_answer (P.Port.state port.old) (write_of store) }
-    ensures after { ByAnswer result (P.Port.state port.new ≡ drained (posted (write_of store ∷ []) (P.Port.state port.old))) (port.new ≡ port.old) }
-    ensures did { Through P.Port.state P.Port.does (write_of store) port.old port.new }
+    requires { P.sound port.old }
+    ensures sound { P.sound port.new }
+    ensures value { result ≡ write_answer (P.state port.old) (write_of store) }
+    ensures after { ByAnswer result (P.state port.new ≡ drained (posted (write_of store ∷ []) (P.state port.old))) (port.new ≡ port.old) }
+    ensures did { Through P.state P.does (write_of store) port.old port.new }
 {
     port.write(store.word, store.lanes, store.value)?;
     settle_all(port);
@@ -71,11 +71,11 @@ fn write_through<P: Port>(port: &mut P, store: Store) -> Result<(), Fault>
 impl<P: Port> Board<P> {
     /// A free board on a port, in which nothing waits any more.
     pub fn new(port: P) -> Board<P>
-        requires { P.Port.sound port }
-        ensures sound { P.Port.sound result.port }
+        requires { P.sound port }
+        ensures sound { P.sound result.port }
         ensures mode { result.mode ≡ Free }
-        ensures settled { P.Port.state result.port ≡ drained (P.Port.state port) }
-        ensures did { Drains P.Port.state P.Port.does port result.port }
+        ensures settled { P.state result.port ≡ drained (P.state port) }
+        ensures did { Drains P.state P.does port result.port }
     {
         let mut port = port;
         settle_all(&mut port);
@@ -87,32 +87,32 @@ impl<P: Port> Board<P> {
 
     /// How many words the port has.
     pub fn words(&self) -> u32
-        requires { P.Port.sound self.now.port }
-        ensures { result ≡ (P.Port.state self.now.port).facts.words }
+        requires { P.sound self.now.port }
+        ensures { result ≡ (P.state self.now.port).facts.words }
     {
         self.port.words()
     }
 
     /// Whether a line may be cached, and whether it is protected.
     pub fn marks(&self, line: u32) -> Result<(bool, bool), Fault>
-        requires { P.Port.sound self.now.port }
-        ensures { result ≡ marks_answer (P.Port.state self.now.port) line }
+        requires { P.sound self.now.port }
+        ensures { result ≡ marks_answer (P.state self.now.port) line }
     {
         self.port.marks(line)
     }
 
     /// How many writes wait, as far as a `u32` counts.
     pub fn waiting(&self) -> u32
-        requires { P.Port.sound self.now.port }
-        ensures { result ≡ waiting_answer (P.Port.state self.now.port) }
+        requires { P.sound self.now.port }
+        ensures { result ≡ waiting_answer (P.state self.now.port) }
     {
         self.port.waiting()
     }
 
     /// One more than the port's floor, up to 255.
     pub fn floor(&self) -> u8
-        requires { P.Port.sound self.now.port }
-        ensures { result ≡ board_floor (P.Port.state self.now.port).facts.floor }
+        requires { P.sound self.now.port }
+        ensures { result ≡ board_floor (P.state self.now.port).facts.floor }
     {
         self.port.floor().saturating_add(1)
     }
@@ -134,8 +134,8 @@ impl<P: Port> Board<P> {
 
     // The answer to a call that the mode turns down.
     fn refuse(&self, refusal: Refusal, place: u32) -> Result<Answer, Fault>
-        requires { P.Port.sound self.now.port }
-        ensures { result ≡ Err (record { refusal = refusal; place = place; floor = board_floor (P.Port.state self.now.port).facts.floor }) }
+        requires { P.sound self.now.port }
+        ensures { result ≡ Err (record { refusal = refusal; place = place; floor = board_floor (P.state self.now.port).facts.floor }) }
     {
         Err(Fault {
             refusal,
@@ -146,9 +146,9 @@ impl<P: Port> Board<P> {
 
     /// Makes a call without tokens. The mode and the call together decide what is done.
     pub fn call(&mut self, call: Call) -> Result<Answer, Fault>
-        requires { P.Port.sound self.old.port }
-        ensures sound { P.Port.sound self.new.port }
-        ensures called { Called P.Port.state P.Port.does self.old.mode self.old.port call result self.new.mode self.new.port }
+        requires { P.sound self.old.port }
+        ensures sound { P.sound self.new.port }
+        ensures called { Called P.state P.does self.old.mode self.old.port call result self.new.mode self.new.port }
     {
         let place = place_of(call);
         match (call, self.mode) {
@@ -204,9 +204,9 @@ impl<P: Port> Board<P> {
 
     /// Locks the board, once nothing waits, and hands out its lock.
     pub fn lock(&mut self) -> Result<Lock, Fault>
-        requires { P.Port.sound self.old.port }
-        ensures sound { P.Port.sound self.new.port }
-        ensures called { Called P.Port.state P.Port.does self.old.mode self.old.port Locks (as_done result) self.new.mode self.new.port }
+        requires { P.sound self.old.port }
+        ensures sound { P.sound self.new.port }
+        ensures called { Called P.state P.does self.old.mode self.old.port Locks (as_done result) self.new.mode self.new.port }
     {
         self.call(Call::Lock)?;
         Ok(Lock { mark: () })
@@ -214,9 +214,9 @@ impl<P: Port> Board<P> {
 
     /// Unlocks the board. The lock is spent, even where the board turns out not to be locked.
     pub fn unlock(&mut self, lock: Lock) -> Result<(), Fault>
-        requires { P.Port.sound self.old.port }
-        ensures sound { P.Port.sound self.new.port }
-        ensures called { Called P.Port.state P.Port.does self.old.mode self.old.port Unlocks (as_done result) self.new.mode self.new.port }
+        requires { P.sound self.old.port }
+        ensures sound { P.sound self.new.port }
+        ensures called { Called P.state P.does self.old.mode self.old.port Unlocks (as_done result) self.new.mode self.new.port }
     {
         let Lock { mark: () } = lock;
         self.call(Call::Unlock)?;
@@ -225,9 +225,9 @@ impl<P: Port> Board<P> {
 
     /// The settled word, for the holder of the lock.
     pub fn locked_read(&mut self, _lock: &Lock, word: u32) -> Result<u16, Fault>
-        requires { P.Port.sound self.old.port }
-        ensures sound { P.Port.sound self.new.port }
-        ensures called { Called P.Port.state P.Port.does self.old.mode self.old.port (LockedRead word) (as_word result) self.new.mode self.new.port }
+        requires { P.sound self.old.port }
+        ensures sound { P.sound self.new.port }
+        ensures called { Called P.state P.does self.old.mode self.old.port (LockedRead word) (as_word result) self.new.mode self.new.port }
     {
         match self.call(Call::LockedRead(word))? {
             Answer::Word(value) => Ok(value),
@@ -238,9 +238,9 @@ impl<P: Port> Board<P> {
 
     /// A write by the holder of the lock, which has settled when the call returns.
     pub fn locked_write(&mut self, _lock: &Lock, store: Store) -> Result<(), Fault>
-        requires { P.Port.sound self.old.port }
-        ensures sound { P.Port.sound self.new.port }
-        ensures called { Called P.Port.state P.Port.does self.old.mode self.old.port (LockedWrite store) (as_done result) self.new.mode self.new.port }
+        requires { P.sound self.old.port }
+        ensures sound { P.sound self.new.port }
+        ensures called { Called P.state P.does self.old.mode self.old.port (LockedWrite store) (as_done result) self.new.mode self.new.port }
     {
         self.call(Call::LockedWrite(store))?;
         Ok(())
@@ -248,9 +248,9 @@ impl<P: Port> Board<P> {
 
     /// Grants the board to the display unit, and hands out the grant.
     pub fn ask(&mut self) -> Result<Grant, Fault>
-        requires { P.Port.sound self.old.port }
-        ensures sound { P.Port.sound self.new.port }
-        ensures called { Called P.Port.state P.Port.does self.old.mode self.old.port Asks (as_done result) self.new.mode self.new.port }
+        requires { P.sound self.old.port }
+        ensures sound { P.sound self.new.port }
+        ensures called { Called P.state P.does self.old.mode self.old.port Asks (as_done result) self.new.mode self.new.port }
     {
         self.call(Call::Ask)?;
         Ok(Grant { mark: () })
@@ -258,9 +258,9 @@ impl<P: Port> Board<P> {
 
     /// Ends the grant. It is spent, even where the board turns out not to be granted.
     pub fn give(&mut self, grant: Grant) -> Result<(), Fault>
-        requires { P.Port.sound self.old.port }
-        ensures sound { P.Port.sound self.new.port }
-        ensures called { Called P.Port.state P.Port.does self.old.mode self.old.port Gives (as_done result) self.new.mode self.new.port }
+        requires { P.sound self.old.port }
+        ensures sound { P.sound self.new.port }
+        ensures called { Called P.state P.does self.old.mode self.old.port Gives (as_done result) self.new.mode self.new.port }
     {
         let Grant { mark: () } = grant;
         self.call(Call::Give)?;
@@ -269,9 +269,9 @@ impl<P: Port> Board<P> {
 
     /// The settled word, for the holder of the grant.
     pub fn master_read(&mut self, _grant: &Grant, word: u32) -> Result<u16, Fault>
-        requires { P.Port.sound self.old.port }
-        ensures sound { P.Port.sound self.new.port }
-        ensures called { Called P.Port.state P.Port.does self.old.mode self.old.port (MasterRead word) (as_word result) self.new.mode self.new.port }
+        requires { P.sound self.old.port }
+        ensures sound { P.sound self.new.port }
+        ensures called { Called P.state P.does self.old.mode self.old.port (MasterRead word) (as_word result) self.new.mode self.new.port }
     {
         match self.call(Call::MasterRead(word))? {
             Answer::Word(value) => Ok(value),
@@ -282,9 +282,9 @@ impl<P: Port> Board<P> {
 
     /// A write by the holder of the grant, which goes past the waiting line.
     pub fn master_write(&mut self, _grant: &Grant, store: Store) -> Result<(), Fault>
-        requires { P.Port.sound self.old.port }
-        ensures sound { P.Port.sound self.new.port }
-        ensures called { Called P.Port.state P.Port.does self.old.mode self.old.port (MasterWrite store) (as_done result) self.new.mode self.new.port }
+        requires { P.sound self.old.port }
+        ensures sound { P.sound self.new.port }
+        ensures called { Called P.state P.does self.old.mode self.old.port (MasterWrite store) (as_done result) self.new.mode self.new.port }
     {
         self.call(Call::MasterWrite(store))?;
         Ok(())
@@ -292,11 +292,11 @@ impl<P: Port> Board<P> {
 
     /// Reads a word under a lock of its own, which is given back whatever the read answers.
     pub fn locked_cycle(&mut self, word: u32) -> Result<u16, Fault>
-        requires { P.Port.sound self.old.port }
-        ensures sound { P.Port.sound self.new.port }
+        requires { P.sound self.old.port }
+        ensures sound { P.sound self.new.port }
         ensures mode { self.new.mode ≡ self.old.mode }
-        ensures cycled { self.old.mode ≡ Free → Cycled P.Port.state P.Port.does self.old.mode self.old.port Locks (LockedRead word) Unlocks (as_word result) self.new.mode self.new.port }
-        ensures refused { (self.old.mode ≢ Free) → Called P.Port.state P.Port.does self.old.mode self.old.port Locks (as_word result) self.new.mode self.new.port }
+        ensures cycled { self.old.mode ≡ Free → Cycled P.state P.does self.old.mode self.old.port Locks (LockedRead word) Unlocks (as_word result) self.new.mode self.new.port }
+        ensures refused { (self.old.mode ≢ Free) → Called P.state P.does self.old.mode self.old.port Locks (as_word result) self.new.mode self.new.port }
     {
         let lock = self.lock()?;
         let value = self.locked_read(&lock, word);
@@ -306,11 +306,11 @@ impl<P: Port> Board<P> {
 
     /// Reads a word under a grant of its own, which is given back whatever the read answers.
     pub fn master_cycle(&mut self, word: u32) -> Result<u16, Fault>
-        requires { P.Port.sound self.old.port }
-        ensures sound { P.Port.sound self.new.port }
+        requires { P.sound self.old.port }
+        ensures sound { P.sound self.new.port }
         ensures mode { self.new.mode ≡ self.old.mode }
-        ensures cycled { self.old.mode ≡ Free → Cycled P.Port.state P.Port.does self.old.mode self.old.port Asks (MasterRead word) Gives (as_word result) self.new.mode self.new.port }
-        ensures refused { (self.old.mode ≢ Free) → Called P.Port.state P.Port.does self.old.mode self.old.port Asks (as_word result) self.new.mode self.new.port }
+        ensures cycled { self.old.mode ≡ Free → Cycled P.state P.does self.old.mode self.old.port Asks (MasterRead word) Gives (as_word result) self.new.mode self.new.port }
+        ensures refused { (self.old.mode ≢ Free) → Called P.state P.does self.old.mode self.old.port Asks (as_word result) self.new.mode self.new.port }
     {
         let grant = self.ask()?;
         let value = self.master_read(&grant, word);

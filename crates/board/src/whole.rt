@@ -24,11 +24,11 @@ pub struct NoMemory<T> {
 
 // Makes the calls, where there is room for all their answers.
 fn run_into<P: Port>(port: P, calls: &[Call], room: Vec<Result<Answer, Fault>>) -> Outcome<P>
-    requires sound { P.Port.sound port }
+    requires sound { P.sound port }
     requires empty { (room.items ≡ []) × (vec_len room ≡ 0) }
     requires room { length calls.now ≤ vec_capacity room }
-    ensures sound { P.Port.sound result.board.port }
-    ensures promise { NeverAnOldDigit P.Port.state P.Port.does port calls.now result.answers.items result.board.mode result.board.port }
+    ensures sound { P.sound result.board.port }
+    ensures promise { NeverAnOldDigit P.state P.does port calls.now result.answers.items result.board.mode result.board.port }
 {
     let mut answers = room;
     let mut board = Board::new(port);
@@ -41,9 +41,9 @@ fn run_into<P: Port>(port: P, calls: &[Call], room: Vec<Result<Answer, Fault>>) 
 
 /// Makes a board on a port and gives it every call of a list.
 pub fn run<P: Port>(heap: Global, port: P, calls: &[Call]) -> Result<Outcome<P>, NoMemory<P>>
-    requires { P.Port.sound port }
-    ensures sound { IfOk result (λ run. P.Port.sound run.board.port) }
-    ensures promise { MatchResult result (λ run. NeverAnOldDigit P.Port.state P.Port.does port calls.now run.answers.items run.board.mode run.board.port) (λ none. none.back ≡ port) }
+    requires { P.sound port }
+    ensures sound { IfOk result (λ run. P.sound run.board.port) }
+    ensures promise { MatchResult result (λ run. NeverAnOldDigit P.state P.does port calls.now run.answers.items run.board.mode run.board.port) (λ none. none.back ≡ port) }
     ensures law { TheBookIsSound }
 {
     match Vec::with_capacity(heap, calls.len()) {
@@ -59,12 +59,12 @@ pub fn compare<P: Port, Q: Port>(
     other: Q,
     calls: &[Call],
 ) -> Result<(Outcome<P>, Outcome<Q>), NoMemory<(P, Q)>>
-    requires one { P.Port.sound one }
-    requires other { Q.Port.sound other }
-    ensures sound { IfOk result (λ runs. P.Port.sound runs.0.board.port × Q.Port.sound runs.1.board.port) }
-    ensures promise { MatchResult result (λ runs. NeverAnOldDigit P.Port.state P.Port.does one calls.now runs.0.answers.items runs.0.board.mode runs.0.board.port) (λ none. none.back.0 ≡ one) }
-    ensures other_promise { MatchResult result (λ runs. NeverAnOldDigit Q.Port.state Q.Port.does other calls.now runs.1.answers.items runs.1.board.mode runs.1.board.port) (λ none. none.back.1 ≡ other) }
-    ensures alike { IfOk result (λ runs. HeardAlike (P.Port.state one) (Q.Port.state other) calls.now runs.0.answers.items runs.1.answers.items) }
+    requires one { P.sound one }
+    requires other { Q.sound other }
+    ensures sound { IfOk result (λ runs. P.sound runs.0.board.port × Q.sound runs.1.board.port) }
+    ensures promise { MatchResult result (λ runs. NeverAnOldDigit P.state P.does one calls.now runs.0.answers.items runs.0.board.mode runs.0.board.port) (λ none. none.back.0 ≡ one) }
+    ensures other_promise { MatchResult result (λ runs. NeverAnOldDigit Q.state Q.does other calls.now runs.1.answers.items runs.1.board.mode runs.1.board.port) (λ none. none.back.1 ≡ other) }
+    ensures alike { IfOk result (λ runs. HeardAlike (P.state one) (Q.state other) calls.now runs.0.answers.items runs.1.answers.items) }
     ensures law { TheBookIsSound }
 {
     let Ok(room) = Vec::with_capacity(heap, calls.len()) else {

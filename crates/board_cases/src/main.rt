@@ -200,7 +200,7 @@ fn try_list<P: Port + Drop>(
     port: P,
     calls: &[Call],
 ) -> io::Result<()>
-    requires { P.Port.sound port }
+    requires { P.sound port }
 {
     let Ok(outcome) = run(rt.alloc(), port, calls) else {
         return Err(AllocError.into());
@@ -223,8 +223,8 @@ fn try_pair<P: Port + Drop, Q: Port + Drop>(
     other: Q,
     calls: &[Call],
 ) -> io::Result<()>
-    requires one { P.Port.sound one }
-    requires other { Q.Port.sound other }
+    requires one { P.sound one }
+    requires other { Q.sound other }
 {
     let Ok((first, second)) = compare(rt.alloc(), one, other, calls) else {
         return Err(AllocError.into());
@@ -248,7 +248,7 @@ fn try_buffer<P: Port + Drop>(
     port: P,
     calls: &[Call],
 ) -> io::Result<()>
-    requires { P.Port.sound port }
+    requires { P.sound port }
 {
     try_list(rt, title, WriteBuffer::new(port), calls)
 }
@@ -268,7 +268,7 @@ fn try_stacked<P: Port + Drop>(
     port: P,
     calls: &[Call],
 ) -> io::Result<()>
-    requires { P.Port.sound port }
+    requires { P.sound port }
 {
     try_buffer(rt, title, WriteBuffer::new(port), calls)
 }

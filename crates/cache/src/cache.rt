@@ -33,10 +33,10 @@ impl<P: Port> Cache<P> {
 
     // Fetches the next word of the line under fill, if there is one.
     fn fetch_one(&mut self)
-        requires { Sound P.Port.state P.Port.sound self.old }
-        ensures sound { Sound P.Port.state P.Port.sound self.new }
-        ensures after { Settles (P.Port.state self.old.below) (P.Port.state self.new.below) }
-        ensures did { TakesTurn P.Port.does (fetch_turn (shows_below P.Port.state self.old) (tables_of self.old)) self.old self.new }
+        requires { Sound P.state P.sound self.old }
+        ensures sound { Sound P.state P.sound self.new }
+        ensures after { Settles (P.state self.old.below) (P.state self.new.below) }
+        ensures did { TakesTurn P.does (fetch_turn (shows_below P.state self.old) (tables_of self.old)) self.old self.new }
     {
         if let Some(fill) = self.tables.fill {
             match self.below.read(fill.next_word()) {
@@ -48,10 +48,10 @@ impl<P: Port> Cache<P> {
 
     // Finishes the fill under way, if there is one.
     fn finish(&mut self)
-        requires { Sound P.Port.state P.Port.sound self.old }
-        ensures sound { Sound P.Port.state P.Port.sound self.new }
-        ensures after { Settles (P.Port.state self.old.below) (P.Port.state self.new.below) }
-        ensures did { TakesTurn P.Port.does (finish_turn (shows_below P.Port.state self.old) (tables_of self.old)) self.old self.new }
+        requires { Sound P.state P.sound self.old }
+        ensures sound { Sound P.state P.sound self.new }
+        ensures after { Settles (P.state self.old.below) (P.state self.new.below) }
+        ensures did { TakesTurn P.does (finish_turn (shows_below P.state self.old) (tables_of self.old)) self.old self.new }
     {
         while self.tables.is_filling() {
             self.fetch_one();
@@ -60,14 +60,14 @@ impl<P: Port> Cache<P> {
 
     // Reads a word below that the tables do not hold, and begins a fill of its line if that may be cached.
     fn miss(&mut self, word: u32) -> Result<u16, Fault>
-        requires sound { Sound P.Port.state P.Port.sound self.old }
+        requires sound { Sound P.state P.sound self.old }
         requires idle { self.old.tables.fill ≡ None }
         requires absent { found (tables_of self.old).dir (line_of word) ≡ None }
-        requires inside { word < (P.Port.state self.old.below).facts.words }
-        ensures sound { Sound P.Port.state P.Port.sound self.new }
-        ensures value { result ≡ reading (shows_below P.Port.state self.old) word }
-        ensures after { Settles (P.Port.state self.old.below) (P.Port.state self.new.below) }
-        ensures did { TakesTurn P.Port.does (miss_turn (shows_below P.Port.state self.old) (tables_of self.old).dir word) self.old self.new }
+        requires inside { word < (P.state self.old.below).facts.words }
+        ensures sound { Sound P.state P.sound self.new }
+        ensures value { result ≡ reading (shows_below P.state self.old) word }
+        ensures after { Settles (P.state self.old.below) (P.state self.new.below) }
+        ensures did { TakesTurn P.does (miss_turn (shows_below P.state self.old) (tables_of self.old).dir word) self.old self.new }
     {
         let value = self.below.read(word)?;
         let (cacheable, protect) = self.below.marks(word / 8)?;
@@ -79,10 +79,10 @@ impl<P: Port> Cache<P> {
 
     // Before a write to a line: finishes a fill of it, unless the line is protected.
     fn make_ready(&mut self, line: u32)
-        requires { Sound P.Port.state P.Port.sound self.old }
-        ensures sound { Sound P.Port.state P.Port.sound self.new }
-        ensures after { Settles (P.Port.state self.old.below) (P.Port.state self.new.below) }
-        ensures did { TakesTurn P.Port.does (ready_turn (shows_below P.Port.state self.old) (tables_of self.old) line) self.old self.new }
+        requires { Sound P.state P.sound self.old }
+        ensures sound { Sound P.state P.sound self.new }
+        ensures after { Settles (P.state self.old.below) (P.state self.new.below) }
+        ensures did { TakesTurn P.does (ready_turn (shows_below P.state self.old) (tables_of self.old) line) self.old self.new }
         ensures closed { fills_open self.new.tables.fill line ≡ false }
     {
         if self.tables.fills_open(line) {
@@ -94,13 +94,13 @@ impl<P: Port> Cache<P> {
 impl<P: Port> Cache<P> {
     /// A cache over a port, with no valid way, no mark and no fill.
     pub fn new(below: P) -> Cache<P>
-        requires { P.Port.sound below }
-        ensures sound { Sound P.Port.state P.Port.sound result }
+        requires { P.sound below }
+        ensures sound { Sound P.state P.sound result }
         ensures below { result.below ≡ below }
         ensures tables { tables_of result ≡ cleared }
         ensures law { CachingIsLawful }
         ensures examples { WorkedExamples }
-        ensures run { OnlyReadsAreKept P.Port.state P.Port.does }
+        ensures run { OnlyReadsAreKept P.state P.does }
     {
         // A port tells with its size that it consists of whole lines, which the tables rest on.
         let _ = below.words();
@@ -112,8 +112,8 @@ impl<P: Port> Cache<P> {
 
     /// What stands in a way of a set.
     pub fn inspect(&self, set: u32, way: u32) -> Result<WayState, Fault>
-        requires { Sound P.Port.state P.Port.sound self.now }
-        ensures { result ≡ inspect_answer (tables_of self.now).dir (floor_above (P.Port.state self.now.below).facts.floor) set way }
+        requires { Sound P.state P.sound self.now }
+        ensures { result ≡ inspect_answer (tables_of self.now).dir (floor_above (P.state self.now.below).facts.floor) set way }
     {
         match self.tables.directory.inspect(set, way) {
             Some(told) => Ok(told),
@@ -135,11 +135,11 @@ impl<P: Port> Cache<P> {
 }
 
 impl<P: Port> Port for Cache<P> {
-    ghost state = { λ c. raised (P.Port.state c.below) };
+    ghost state = { λ c. raised (P.state c.below) };
 
-    ghost sound = { λ c. Sound P.Port.state P.Port.sound c };
+    ghost sound = { λ c. Sound P.state P.sound c };
 
-    ghost does = { λ b d c. Does P.Port.state P.Port.does b d c };
+    ghost does = { λ b d c. Does P.state P.does b d c };
 
     fn words(&self) -> u32 {
         self.below.words()

@@ -25,8 +25,8 @@ pub fn run_on_stages<M: Port>(
     memory: M,
     calls: &[Call],
 ) -> Result<StagesRun<M>, NoMemory<M>>
-    requires { M.Port.sound memory }
-    ensures { MatchResult result (λ ran. RunOnTheStages M.Port.state M.Port.does memory calls.now ran.answers.items ran.waiting ran.memory) (λ none. none.back ≡ memory) }
+    requires { M.sound memory }
+    ensures { MatchResult result (λ ran. RunOnTheStages M.state M.does memory calls.now ran.answers.items ran.waiting ran.memory) (λ none. none.back ≡ memory) }
 {
     match run(heap, Cache::new(WriteBuffer::new(memory)), calls) {
         Ok(outcome) => {

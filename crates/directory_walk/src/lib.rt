@@ -26,8 +26,8 @@ pub struct Walk {
 
 // Asks about each way of a set.
 fn ask_set<P: Port>(cache: &Cache<P>, set: u32) -> SetTold
-    requires { Sound P.Port.state P.Port.sound cache.now }
-    ensures { result ≡ told_of P.Port.state cache.now set }
+    requires { Sound P.state P.sound cache.now }
+    ensures { result ≡ told_of P.state cache.now set }
 {
     SetTold {
         set,
@@ -46,8 +46,8 @@ pub fn walk_sets<P: Port>(
     board: &Board<Cache<P>>,
     sets: &[u32],
 ) -> Result<Walk, AllocError>
-    requires { Sound P.Port.state P.Port.sound board.now.port }
-    ensures { IfOk result (λ walk. Walked P.Port.state board.now.port sets.now walk) }
+    requires { Sound P.state P.sound board.now.port }
+    ensures { IfOk result (λ walk. Walked P.state board.now.port sets.now walk) }
 {
     let cache = board.port();
     let mut told = Vec::new(heap);

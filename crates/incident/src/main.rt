@@ -32,7 +32,7 @@ fn replay_on<P: Port + Drop>(
     memory: P,
     clears: bool,
 ) -> io::Result<()>
-    requires { P.Port.sound memory }
+    requires { P.sound memory }
 {
     let told = replay(rt.alloc(), Cache::new(WriteBuffer::new(memory)), clears)?;
     println!(rt; "{title}")?;

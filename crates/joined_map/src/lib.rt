@@ -18,8 +18,8 @@ pub struct JoinedMap<L, H> {
 
 /// How many words a map of these two ports has, or why it has none.
 pub fn map_size<L: Port, H: Port>(low: &L, high: &H) -> Result<u32, Fault>
-    requires { (L.Port.sound low.now) × (H.Port.sound high.now) }
-    ensures { result ≡ size_of_lines (((L.Port.state low.now).facts.words + (H.Port.state high.now).facts.words) / 8) }
+    requires { (L.sound low.now) × (H.sound high.now) }
+    ensures { result ≡ size_of_lines (((L.state low.now).facts.words + (H.state high.now).facts.words) / 8) }
 {
     size_of_lines((low.words() as usize + high.words() as usize) / 8)
 }
@@ -42,11 +42,11 @@ fn shifted<T>(by: u32, res: Result<T, Fault>) -> Result<T, Fault>
 impl<L: Port, H: Port> JoinedMap<L, H> {
     /// A map of two ports, once none of their writes waits; it has no words where its size is unfit.
     pub fn new(low: L, high: H) -> JoinedMap<L, H>
-        requires { (L.Port.sound low) × (H.Port.sound high) }
-        ensures sound { L.Port.sound result.low × H.Port.sound result.high × Still (L.Port.state result.low) (H.Port.state result.high) }
-        ensures low { L.Port.state result.low ≡ drained (L.Port.state low) }
-        ensures high { H.Port.state result.high ≡ drained (H.Port.state high) }
-        ensures did { Drains L.Port.state L.Port.does low result.low × Drains H.Port.state H.Port.does high result.high }
+        requires { (L.sound low) × (H.sound high) }
+        ensures sound { L.sound result.low × H.sound result.high × Still (L.state result.low) (H.state result.high) }
+        ensures low { L.state result.low ≡ drained (L.state low) }
+        ensures high { H.state result.high ≡ drained (H.state high) }
+        ensures did { Drains L.state L.does low result.low × Drains H.state H.does high result.high }
     {
         let mut low = low;
         let mut high = high;
@@ -65,11 +65,11 @@ impl<L: Port, H: Port> JoinedMap<L, H> {
 }
 
 impl<L: Port, H: Port> Port for JoinedMap<L, H> {
-    ghost state = { λ b. joint_state (L.Port.state b.low) (H.Port.state b.high) };
+    ghost state = { λ b. joint_state (L.state b.low) (H.state b.high) };
 
-    ghost sound = { λ b. L.Port.sound b.low × H.Port.sound b.high × Still (L.Port.state b.low) (H.Port.state b.high) };
+    ghost sound = { λ b. L.sound b.low × H.sound b.high × Still (L.state b.low) (H.state b.high) };
 
-    ghost does = { λ b d c. MapDoes L.Port.state L.Port.does H.Port.state H.Port.does b d c };
+    ghost does = { λ b d c. MapDoes L.state L.does H.state H.does b d c };
 
     fn words(&self) -> u32 {
         match map_size(&self.low, &self.high) {

@@ -67,8 +67,8 @@ fn try_pair<P: Port + Drop, Q: Port + Drop>(
     other: Q,
     calls: &[Call],
 ) -> io::Result<()>
-    requires one { P.Port.sound one }
-    requires other { Q.Port.sound other }
+    requires one { P.sound one }
+    requires other { Q.sound other }
 {
     let Ok((first, second)) = compare(rt.alloc(), one, other, calls) else {
         return Err(AllocError.into());
@@ -89,8 +89,8 @@ fn try_orders<P: Port + Drop, Q: Port + Drop>(
     other: Q,
     calls: &[Call],
 ) -> io::Result<()>
-    requires one { P.Port.sound one }
-    requires other { Q.Port.sound other }
+    requires one { P.sound one }
+    requires other { Q.sound other }
 {
     println!(rt; "  a cache over a buffer, and a buffer over a cache:")?;
     try_pair(
@@ -107,8 +107,8 @@ fn try_bare<P: Port + Drop, Q: Port + Drop>(
     other: Q,
     calls: &[Call],
 ) -> io::Result<()>
-    requires one { P.Port.sound one }
-    requires other { Q.Port.sound other }
+    requires one { P.sound one }
+    requires other { Q.sound other }
 {
     println!(rt; "  a cache over a cache, and no stage:")?;
     try_pair(rt, Cache::new(Cache::new(one)), other, calls)

@@ -148,10 +148,10 @@ pub trait Port {
 
 /// Advances a port until none of its writes waits.
 pub fn settle_all<P: Port>(port: &mut P)
-    requires { sound port.old }
-    ensures sound { sound port.new }
-    ensures after { state port.new ≡ drained (state port.old) }
-    ensures did { Drains state does port.old port.new }
+    requires { P.sound port.old }
+    ensures sound { P.sound port.new }
+    ensures after { P.state port.new ≡ drained (P.state port.old) }
+    ensures did { Drains P.state P.does port.old port.new }
     ensures law { SettlingIsLawful }
 {
     while port.waiting() > 0 {

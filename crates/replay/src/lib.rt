@@ -116,11 +116,11 @@ fn row_at(answers: &[Result<Answer, Fault>], first: u8) -> Option<Row>
 
 /// Replays the incident on a board over a port, with the display's clear or without it.
 pub fn replay<P: Port + Drop>(heap: Global, port: P, clears: bool) -> Result<Replayed, AllocError>
-    requires { P.Port.sound port }
+    requires { P.sound port }
     ensures calls { IfOk result (λ told. told.calls.items ≡ incident_calls clears) }
-    ensures answers { IfOk result (λ told. AnsweredByTheBook (P.Port.state port) (incident_calls clears) told.answers.items) }
+    ensures answers { IfOk result (λ told. AnsweredByTheBook (P.state port) (incident_calls clears) told.answers.items) }
     ensures taken { IfOk result (λ told. RowsAreTheAnswers clears told.answers.items told.before told.after) }
-    ensures rows { IfOk result (λ told. RowStands (P.Port.state port) → ReadsTheNewestRow clears told.before told.after) }
+    ensures rows { IfOk result (λ told. RowStands (P.state port) → ReadsTheNewestRow clears told.before told.after) }
 {
     let calls = make_calls(heap, clears)?;
     let Ok(outcome) = run(heap, port, &calls) else {

@@ -69,7 +69,7 @@ fn print_set(rt: &HostRuntime, told: &SetTold) -> io::Result<()> {
 
 // Fills the lines on a board over the memory, and prints what a walk through the directory finds.
 fn test_directory<P: Port + Drop>(rt: &HostRuntime, memory: P) -> io::Result<()>
-    requires { P.Port.sound memory }
+    requires { P.sound memory }
 {
     let calls = make_calls(rt.alloc(), &FILLED)?;
     let Ok(outcome) = run(rt.alloc(), Cache::new(WriteBuffer::new(memory)), &calls) else {

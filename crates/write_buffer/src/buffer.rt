@@ -20,11 +20,11 @@ pub struct WriteBuffer<P: Port> {
 
 // Sends a write to a port that takes it.
 fn send<P: Port>(below: &mut P, write: Write)
-    requires sound { sound below.old }
-    requires taken { write_answer (state below.old) write ≡ Ok tt }
-    ensures sound { sound below.new }
-    ensures after { Settles (posted (write ∷ []) (state below.old)) (state below.new) }
-    ensures did { does below.old (writes write (Ok tt)) below.new }
+    requires sound { P.sound below.old }
+    requires taken { write_answer (P.state below.old) write ≡ Ok tt }
+    ensures sound { P.sound below.new }
+    ensures after { Settles (posted (write ∷ []) (P.state below.old)) (P.state below.new) }
+    ensures did { P.does below.old (writes write (Ok tt)) below.new }
 {
     // It is taken, so there is no refusal to pass up.
     let _ = below.write(write.word, write.lanes, write.value);
@@ -32,12 +32,12 @@ fn send<P: Port>(below: &mut P, write: Write)
 
 // Sends a write to a port that takes it; if it still waits there, that port advances once.
 fn send_on<P: Port>(below: &mut P, write: Write)
-    requires sound { sound below.old }
-    requires taken { write_answer (state below.old) write ≡ Ok tt }
-    ensures sound { sound below.new }
-    ensures after { Settles (posted (write ∷ []) (state below.old)) (state below.new) }
-    ensures fewer { length (state below.new).waiting ≤ length (state below.old).waiting }
-    ensures did { SendsOn state does write below.old below.new }
+    requires sound { P.sound below.old }
+    requires taken { write_answer (P.state below.old) write ≡ Ok tt }
+    ensures sound { P.sound below.new }
+    ensures after { Settles (posted (write ∷ []) (P.state below.old)) (P.state below.new) }
+    ensures fewer { length (P.state below.new).waiting ≤ length (P.state below.old).waiting }
+    ensures did { SendsOn P.state P.does write below.old below.new }
 {
     send(below, write);
     if below.waiting() > 0 {
@@ -47,12 +47,12 @@ fn send_on<P: Port>(below: &mut P, write: Write)
 
 // Sends every write of a queue to a port that takes them, the oldest first.
 fn send_all<P: Port>(below: &mut P, queue: &mut Queue)
-    requires sound { sound below.old }
-    requires taken { Takes (state below.old).facts (queued queue.old) }
-    ensures sound { sound below.new }
+    requires sound { P.sound below.old }
+    requires taken { Takes (P.state below.old).facts (queued queue.old) }
+    ensures sound { P.sound below.new }
     ensures queue { queued queue.new ≡ [] }
-    ensures after { Settles (posted (queued queue.old) (state below.old)) (state below.new) }
-    ensures did { Chain does below.old (sends (queued queue.old)) below.new }
+    ensures after { Settles (posted (queued queue.old) (P.state below.old)) (P.state below.new) }
+    ensures did { Chain P.does below.old (sends (queued queue.old)) below.new }
 {
     while let Some(oldest) = queue.pop() {
         send(below, oldest);
@@ -62,12 +62,12 @@ fn send_all<P: Port>(below: &mut P, queue: &mut Queue)
 impl<P: Port> WriteBuffer<P> {
     /// A buffer over a port, in which nothing waits yet.
     pub fn new(below: P) -> WriteBuffer<P>
-        requires { P.Port.sound below }
-        ensures sound { Sound P.Port.state P.Port.sound result }
+        requires { P.sound below }
+        ensures sound { Sound P.state P.sound result }
         ensures below { result.below ≡ below }
         ensures queue { queued result.queue ≡ [] }
         ensures law { BufferingIsLawful }
-        ensures run { NothingIsLost P.Port.state P.Port.does }
+        ensures run { NothingIsLost P.state P.does }
     {
         WriteBuffer {
             below,
@@ -86,11 +86,11 @@ impl<P: Port> WriteBuffer<P> {
 }
 
 impl<P: Port> Port for WriteBuffer<P> {
-    ghost state = { λ b. buffered (P.Port.state b.below) (queued b.queue) };
+    ghost state = { λ b. buffered (P.state b.below) (queued b.queue) };
 
-    ghost sound = { λ b. Sound P.Port.state P.Port.sound b };
+    ghost sound = { λ b. Sound P.state P.sound b };
 
-    ghost does = { λ b d c. Does P.Port.state P.Port.does b d c };
+    ghost does = { λ b d c. Does P.state P.does b d c };
 
     fn words(&self) -> u32 {
         self.below.words()

@@ -14,12 +14,12 @@ returns-in-err-call c =
 
 pub loop-calls-smaller : goal.loop-calls-smaller
 loop-calls-smaller c =
-    turn_less _ _ _ _ _ _ c.loop-calls.invariant.0 c.in-ok-call.ensures.value c.in-ok-call.ensures.moved c.in-Some.is
+    turn_less _ _ _ _ _ _ c.loop-calls.invariant.0 c.in_ok-call.ensures.value c.in_ok-call.ensures.moved c.in-Some.is
 
 pub loop-calls-preserved : goal.loop-calls-preserved
 loop-calls-preserved c = (
-  c.in-ok-call.ensures.same ∙ c.loop-calls.invariant.0,
-  turn_more _ _ _ _ _ c.loop-calls.invariant.0 c.loop-calls.invariant.1 _ _ _ _ c.in-ok-call.ensures.value c.in-ok-call.ensures.moved c.in-Some.is c.in-ok-push.ensures.items,
+  c.in_ok-call.ensures.same ∙ c.loop-calls.invariant.0,
+  turn_more _ _ _ _ _ c.loop-calls.invariant.0 c.loop-calls.invariant.1 _ _ _ _ c.in_ok-call.ensures.value c.in_ok-call.ensures.moved c.in-Some.is c.in_ok-push.ensures.items,
 )
 
 pub returns-in-err-push : goal.returns-in-err-push
@@ -30,6 +30,6 @@ returns-in-err-push c =
 pub returns : goal.returns
 returns c =
     record {
-      answer = turn_end _ _ _ _ _ c.loop-calls.invariant.0 c.loop-calls.invariant.1 _ c.in-ok-call.ensures.value c.in-default.is;
-      law = list_encodes_its_calls c.args.bytes.now (λ i. (c.type-inv.bytes i).fits);
+      answer = turn_end _ _ _ _ _ c.loop-calls.invariant.0 c.loop-calls.invariant.1 _ c.in_ok-call.ensures.value c.in_default.is;
+      law = list_encodes_its_calls c.args.bytes.now (λ i. (c.ok.bytes i).fits);
     }

@@ -22,6 +22,6 @@ pub returns : goal.returns
 returns c =
     record {
       same = refl;
-      value = sym (next_there c.args.self.now.bytes.now _ _ _ _ c.in-ok-fit-length.ensures c.in-Some.ensures.value c.word-at-next.ensures.value c.in-ok-call.ensures);
+      value = sym (next_there c.args.self.now.bytes.now _ _ _ _ c.in_ok-fit_length.ensures c.in-Some.ensures.value c.word_at-next.ensures.value c.in_ok-call.ensures);
       moved = omega arith;
     }

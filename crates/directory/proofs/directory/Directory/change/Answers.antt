@@ -5,10 +5,10 @@ use Rattle.directory.proofs.Changing.{after-change, apart_as, change_moves_none_
 use Rattle.directory.proofs.directory.Directory.change.Goals.{After-change, at·returns}
 use Rattle.directory.proofs.directory.Directory.change.Goals as goal
 
-after : (c : After-change) → view_of (set c.args.self.now.sets c.set-of.result c.change.new.self) ≡ changed (view_of c.args.self.now.sets) c.args.word c.args.way c.args.value
+after : (c : After-change) → view_of (set c.args.self.now.sets c.set_of.result c.change.new.self) ≡ changed (view_of c.args.self.now.sets) c.args.word c.args.way c.args.value
 after c =
-    after-change c.args.self.now.sets c.set-of.result c.args.way c.change.new.self (search rules)
-    c.args.word (c.args.word % 8) c.args.value c.set-of.ensures.value refl c.change.ensures.wide c.change.ensures.after
+    after-change c.args.self.now.sets c.set_of.result c.args.way c.change.new.self (search rules)
+    c.args.word (c.args.word % 8) c.args.value c.set_of.ensures.value refl c.change.ensures.wide c.change.ensures.after
 
 pub invariant-of-self : goal.invariant-of-self
 invariant-of-self c = (apart_as _ _ (after c) (apart_changed (view_of c.args.self.now.sets) c.args.word c.args.way c.args.value c.args.self.now.apart), tt)

@@ -6,9 +6,9 @@ use Rattle.directory.proofs.Changing.{after-drop, apart_as, drop_forgets_as}
 use Rattle.directory.proofs.directory.Directory.drop_line.Goals.{After-invalidate, at·returns-in-Some}
 use Rattle.directory.proofs.directory.Directory.drop_line.Goals as goal
 
-after : (c : After-invalidate) → view_of (set c.args.self.now.sets c.set-of.result c.invalidate.new.self) ≡ put (view_of c.args.self.now.sets) (set_of c.args.line) c.in-Some.way empty_way
+after : (c : After-invalidate) → view_of (set c.args.self.now.sets c.set_of.result c.invalidate.new.self) ≡ put (view_of c.args.self.now.sets) (set_of c.args.line) c.in-Some.way empty_way
 after c =
-    after-drop c.args.self.now.sets c.set-of.result c.in-Some.way c.invalidate.new.self (search rules) c.args.line c.set-of.ensures.value
+    after-drop c.args.self.now.sets c.set_of.result c.in-Some.way c.invalidate.new.self (search rules) c.args.line c.set_of.ensures.value
     c.invalidate.ensures.wide c.invalidate.ensures.after
 
 pub invariant-of-self : goal.invariant-of-self

@@ -6,6 +6,6 @@ use Rattle.directory.proofs.directory.Directory.lookup.Goals as goal
 pub returns : goal.returns
 returns c =
     record {
-      value = found_as c.args.self.now.sets c.args.line c.set-of.result c.tag-of.result c.find.result c.set-of.ensures.value c.tag-of.ensures c.find.ensures;
+      value = found_as c.args.self.now.sets c.args.line c.set_of.result c.tag_of.result c.find.result c.set_of.ensures.value c.tag_of.ensures c.find.ensures;
       law = one_way (view_of c.args.self.now.sets) c.args.self.now.apart;
     }

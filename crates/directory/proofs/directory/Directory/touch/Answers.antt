@@ -5,8 +5,8 @@ use Rattle.directory.proofs.Changing.{after-touch, apart_as, only_marks_as}
 use Rattle.directory.proofs.directory.Directory.touch.Goals.{After-touch, at·returns}
 use Rattle.directory.proofs.directory.Directory.touch.Goals as goal
 
-after : (c : After-touch) → view_of (set c.args.self.now.sets c.set-of.result c.touch.new.self) ≡ touched (view_of c.args.self.now.sets) (set_of c.args.line) c.args.way
-after c = after-touch c.args.self.now.sets c.set-of.result c.args.way c.touch.new.self (search rules) c.args.line c.set-of.ensures.value c.touch.ensures
+after : (c : After-touch) → view_of (set c.args.self.now.sets c.set_of.result c.touch.new.self) ≡ touched (view_of c.args.self.now.sets) (set_of c.args.line) c.args.way
+after c = after-touch c.args.self.now.sets c.set_of.result c.args.way c.touch.new.self (search rules) c.args.line c.set_of.ensures.value c.touch.ensures
 
 pub invariant-of-self : goal.invariant-of-self
 invariant-of-self c = (apart_as _ _ (after c) c.args.self.now.apart, tt)

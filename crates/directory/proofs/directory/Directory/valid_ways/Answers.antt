@@ -8,7 +8,7 @@ loop-record-init c = (sum_none (valid_in (view_of c.args.self.now.sets)), search
 
 pub loop-record-preserved : goal.loop-record-preserved
 loop-record-preserved c =
-    (sum_more (valid_in (view_of c.args.self.now.sets)) c.loop-record.record-index c.loop-record.count c.valid-ways-count.result c.loop-record.invariant.0 c.valid-ways-count.ensures.value, search rules)
+    (sum_more (valid_in (view_of c.args.self.now.sets)) c.loop-record.record-index c.loop-record.count c.valid_ways-count.result c.loop-record.invariant.0 c.valid_ways-count.ensures.value, search rules)
 
 pub returns : goal.returns
 returns c =

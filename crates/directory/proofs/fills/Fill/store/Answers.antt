@@ -4,8 +4,8 @@ use Rattle.directory.proofs.fills.Fill.store.Goals as goal
 pub returns : goal.returns
 returns c =
     let b = c.args.self.now in
-    let p = c.next-place-place.result in
-    let e = c.next-place-place.ensures in
+    let p = c.next_place-place.result in
+    let e = c.next_place-place.ensures in
     record {
       after = left-stored b c.requires p c.args.value e.value e.small;
       sound = left-ordered b c.requires p c.args.value e.value e.small;

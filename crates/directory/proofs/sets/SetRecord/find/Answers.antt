@@ -6,7 +6,7 @@ pub returns-then-has-tag : goal.returns-then-has-tag
 returns-then-has-tag c = found_here c.args.self.now _ _ _ _ c.loop-number-test.true c.way.ensures c.has-tag.ensures c.loop-number.invariant c.if-has-tag.true
 
 pub loop-number-preserved : goal.loop-number-preserved
-loop-number-preserved c = found-later c.args.self.now _ _ _ _ c.loop-number-test.true c.way.ensures c.has-tag.ensures c.loop-number.invariant c.if-has-tag.false
+loop-number-preserved c = found-later c.args.self.now _ _ _ _ c.loop-number-test.true c.way.ensures c.has_tag.ensures c.loop-number.invariant c.if-has_tag.false
 
 pub returns : goal.returns
 returns c = found_none _ c.loop-number.number-index (search rules) c.loop-number.invariant
