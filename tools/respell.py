@@ -51,9 +51,14 @@ def declarations(text):
             else:
                 yield m.group(2), "word" if m.group(1).strip() not in ("", "pub") else "lemma"
             continue
-        m = re.match(rf"^  (?:pub )?({NAME}) :", line)
+        m = re.match(rf"^  (?:pub )?({NAME}(?: {NAME})*) :", line)
         if m and inside:
-            yield m.group(1), "field" if inside == "record" else "constructor"
+            for name in m.group(1).split():
+                yield name, "field" if inside == "record" else "constructor"
+            continue
+        m = re.match(rf"^( +)(?:pub )?({NAME}) :", line)
+        if m and any(l.startswith(m.group(1) + m.group(2) + " ") for l in lines[i:]):
+            yield m.group(2), "lemma"  # in a section, or below its user's `where`
         elif line and not line.startswith((" ", "--")):
             inside = None
 

@@ -34,16 +34,16 @@ module _ (ls : List Line) (w : Write) (fits : line_of w.word < length ls) (full 
       let else' = get_or-set_other (line_at ls line).words (place_of w.word) (place_of a) (joined w.lanes ((memory_of ls).word w.word) w.value) 0 in
       grind (arith, nat_tests)
 
-  state-after : ram_state (set ls line new) ≡ outside w (ram_state ls)
-  state-after = λ i. record {
+  state_after : ram_state (set ls line new) ≡ outside w (ram_state ls)
+  state_after = λ i. record {
     facts = record { words = words_of_lines (length-set ls line new i); floor = 0; cacheable = λ k. kept (λ l. l.cacheable) ls line k new fits refl i };
     protected = λ k. kept (λ l. l.protect) ls line k new fits refl i;
     settled = record { word = λ a. word_after a i; readable = λ a. kept (λ l. get_or l.readable (place_of a) false) ls line (line_of a) new fits refl i };
     waiting = [];
   }
 
-  pub changed-state : (l : Line) → l ≡ new → ram_state (set ls line l) ≡ outside w (ram_state ls)
-  changed-state l e = ap (λ x. ram_state (set ls line x)) e ∙ state-after
+  pub changed_state : (l : Line) → l ≡ new → ram_state (set ls line l) ≡ outside w (ram_state ls)
+  changed_state l e = ap (λ x. ram_state (set ls line x)) e ∙ state_after
 
-  pub changed-records : (l : Line) → l ≡ new → set ls line l ≡ recorded w ls
-  changed-records l e = ap (set ls line) e ∙ sym (ap (λ b. cond b ls (set ls line new)) free)
+  pub changed_records : (l : Line) → l ≡ new → set ls line l ≡ recorded w ls
+  changed_records l e = ap (set ls line) e ∙ sym (ap (λ b. cond b ls (set ls line new)) free)

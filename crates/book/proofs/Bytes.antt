@@ -26,15 +26,15 @@ byte_stored : (p : ℕ → Bool) (lane : Lane) (a : ℕ) (m : Memory) (w : Write
     → byte lane ((stored p w m).word a) ≡ cond (writes_byte lane a (entry_of p w)) (byte lane w.value) (byte lane (m.word a))
 byte_stored p lane a m w = go (eqb a w.word) refl
   where
-    by-mark : (x : Bool) → byte lane (cond x (m.word a) (joined w.lanes (m.word a) w.value)) ≡ cond (not x && covers w.lanes lane) (byte lane w.value) (byte lane (m.word a))
-    by-mark true = refl
-    by-mark false = byte_joined lane w.lanes (m.word a) w.value
+    by_mark : (x : Bool) → byte lane (cond x (m.word a) (joined w.lanes (m.word a) w.value)) ≡ cond (not x && covers w.lanes lane) (byte lane w.value) (byte lane (m.word a))
+    by_mark true = refl
+    by_mark false = byte_joined lane w.lanes (m.word a) w.value
 
     go : (t : Bool) → eqb a w.word ≡ t → byte lane (cond (eqb a w.word) (cond (p (line_of a)) (m.word a) (joined w.lanes (m.word a) w.value)) (m.word a))
         ≡ cond (eqb a w.word && (not (p (line_of w.word)) && covers w.lanes lane)) (byte lane w.value) (byte lane (m.word a))
     go true e =
         ap (λ (t : Bool). byte lane (cond t (cond (p (line_of a)) (m.word a) (joined w.lanes (m.word a) w.value)) (m.word a))) e
-        ∙ by-mark (p (line_of a))
+        ∙ by_mark (p (line_of a))
         ∙ ap (λ (x : ℕ). cond (not (p (line_of x)) && covers w.lanes lane) (byte lane w.value) (byte lane (m.word a))) (true-eqb a w.word (sym e))
         ∙ ap (λ (t : Bool). cond (t && (not (p (line_of w.word)) && covers w.lanes lane)) (byte lane w.value) (byte lane (m.word a))) (sym e)
     go false e =

@@ -6,7 +6,7 @@ use Rattle.port.specs.declared.Write.{Write}
 use Rattle.port.specs.Memory.{State, posted, settling, drained}
 use Rattle.port.specs.Meaning.{Settles, Advances}
 use Rattle.port.proofs.Settling.{posted_none}
-use Rattle.book.specs.Tables.{posts, masters_writes, settles_by, one-or-more}
+use Rattle.book.specs.Tables.{posts, masters_writes, settles_by, one_or_more}
 use Rattle.book.specs.Book.{settle, mastered, Admits}
 
 pub settle_none : (s : State) → settle 0 (posted [] s) ≡ s
@@ -38,7 +38,7 @@ pub record Landed (c : Call) (s t : State) : Type 0 where
   pub left : t ≡ settle count (posted (posts c) (mastered (masters_writes c) s))
 
 -- An advance settles at least one, if any waits.
-pub advanced : (s t : State) → Advances s t → (k : ℕ) × (Admits one-or-more (length (s.waiting ++ [])) k × (t ≡ settle k (posted [] s)))
+pub advanced : (s t : State) → Advances s t → (k : ℕ) × (Admits one_or_more (length (s.waiting ++ [])) k × (t ≡ settle k (posted [] s)))
 advanced s t a =
     let k = counted s t a.settles in
     let same : length (s.waiting ++ []) ≡ length s.waiting = ap length (append-nil s.waiting) in

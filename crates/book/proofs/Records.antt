@@ -9,7 +9,7 @@ use Rattle.port.specs.Memory.{State, applied}
 use Rattle.port.proofs.Settling.{applied-append}
 use Rattle.book.specs.declared.answer.Answer.{Answer}
 use Rattle.book.specs.declared.answer.Answer.TheVariants.{Done}
-use Rattle.book.specs.Tables.{if_taken, posts, masters_writes, Rule, none, some, one-or-more, all}
+use Rattle.book.specs.Tables.{if_taken, posts, masters_writes, Rule, none, some, one_or_more, all}
 use Rattle.book.specs.Book.{Book, refused, joins, masters, line, step, rule, Admits, says, unless, told, answer}
 use Rattle.book.specs.Runs.{after, answers, Admitted, if_ok, Entry, entry_of, marked, lined, waits, history, processor_history, accepted, total, locks_writes}
 
@@ -153,7 +153,7 @@ once_all b es (c ∷ cs) (k ∷ ks) h =
 within : (r : Rule) (n k : ℕ) → Admits r n k → k ≤ n
 within none n k h = omega arith
 within some n k h = h
-within one-or-more n k h = h.0
+within one_or_more n k h = h.0
 within all n k h = omega arith
 
 once_length : (b : Book) (es : List Entry) (cs : List Call) (ks : List ℕ) → es ≡ marked b.state.protected b.state.waiting → Admitted b cs ks

@@ -14,7 +14,7 @@ use Rattle.book.specs.declared.answer.Mode.{Mode}
 use Rattle.book.specs.declared.answer.Mode.TheVariants.{Free, Locked}
 use Rattle.book.specs.declared.answer.Answer.{Answer}
 use Rattle.book.specs.declared.answer.Answer.TheVariants.{Done, Word}
-use Rattle.book.specs.Tables.{if_locked, in_range, if_taken, posts, masters_writes, goes_to, settles_by, Rule, none, some, one-or-more, all}
+use Rattle.book.specs.Tables.{if_locked, in_range, if_taken, posts, masters_writes, goes_to, settles_by, Rule, none, some, one_or_more, all}
 use Rattle.book.specs.Book.{Book, book_of, first, refused, joins, masters, mastered, line, settle, step, rule, Admits, Allowed, says, unless, told, answer}
 use Rattle.book.specs.Calling.{Called}
 use Rattle.book.specs.Runs.{after, answers, Admitted, Entry, waits, history, locked_writes, Quiet, all_heard}
@@ -176,7 +176,7 @@ pair_alike state does state' does' p q cs rs qs m n u v h k alike quiet =
 some_count : (r : Rule) (n : ℕ) → (k : ℕ) × Admits r n k
 some_count none n = (0, refl)
 some_count some n = (0, omega arith)
-some_count one-or-more n = (n, (omega arith, λ h. h))
+some_count one_or_more n = (n, (omega arith, λ h. h))
 some_count all n = (n, refl)
 
 some_run : (b : Book) (cs : List Call) → (ks : List ℕ) × Admitted b cs ks

@@ -11,7 +11,7 @@ use Rattle.book.specs.declared.answer.Mode.{Mode}
 use Rattle.book.specs.declared.answer.Mode.TheVariants.{Free}
 use Rattle.book.specs.declared.answer.Answer.{Answer}
 use Rattle.book.specs.declared.answer.Answer.TheVariants.{Done, Word}
-use Rattle.book.specs.Tables.{refusal, fault_of, if_taken, posts, masters_writes, goes_to, Rule, none, some, one-or-more, all, settles_by}
+use Rattle.book.specs.Tables.{refusal, fault_of, if_taken, posts, masters_writes, goes_to, Rule, none, some, one_or_more, all, settles_by}
 
 pub record Book : Type 0 where
   pub mode : Mode
@@ -59,7 +59,7 @@ rule b c = if_taken (refused b c) (settles_by c) none
 abbrev pub Admits : Rule → ℕ → ℕ → Type 0
 Admits none waiting k = k ≡ 0
 Admits some waiting k = k ≤ waiting
-Admits one-or-more waiting k = (k ≤ waiting) × (0 < waiting → 0 < k)
+Admits one_or_more waiting k = (k ≤ waiting) × (0 < waiting → 0 < k)
 Admits all waiting k = k ≡ waiting
 
 abbrev pub Allowed : Book → Call → ℕ → Type 0

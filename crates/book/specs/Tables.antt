@@ -156,13 +156,13 @@ goes_to m Flush = m
 
 -- How many of the waiting writes settle at a call.
 pub data Rule : Type 0 where
-  none some one-or-more all : Rule
+  none some one_or_more all : Rule
 
 abbrev pub settles_by : Call → Rule
 settles_by (Read w) = some
 settles_by (Post s) = some
 settles_by (Unposted s) = all
-settles_by Advance = one-or-more
+settles_by Advance = one_or_more
 settles_by Lock = all
 settles_by (LockedRead w) = none
 settles_by (LockedWrite s) = all

@@ -19,7 +19,7 @@ use Rattle.cache_tables.specs.Coherence.{Sees, Coherent}
 use Rattle.cache.specs.Doing.{tables_of, Sound, TakesTurn}
 use Rattle.cache_tables.proofs.Fetching.{shown_kept, move}
 use Rattle.cache_tables.proofs.Reading.{hit_keeps, none_found, none_touched}
-use Rattle.cache_tables.proofs.Changing.{drop_keeps, clear_keeps, outside-keeps, overwritten, shown_posted, write_keeps}
+use Rattle.cache_tables.proofs.Changing.{drop_keeps, clear_keeps, outside_keeps, overwritten, shown_posted, write_keeps}
 
 pub takes_as : {P : Type 0} {does : P → Step → P → Type 0} {b c : Cache P} (x y : Turn) → y ≡ x → TakesTurn does x b c → TakesTurn does y b c
 takes_as {P} {does} {b} {c} x y e h = let F : Turn → Type 0 = λ z. TakesTurn does z b c in subst F (sym e) h
@@ -63,25 +63,25 @@ module _ (v : Shown) (t : Model) (w : ℕ) where
   abbrev early : Option ℕ → Turn
   early o = if_some o (λ _. turn (touched_by t w) []) (read_after v (finish_turn v t) w)
 
-  pub turn-buffered : (x : ℕ) → Some x ≡ buffered_of t.fill w → read_turn v t w ≡ turn t []
-  turn-buffered x e = ap (λ (o : Option ℕ). if_some o (λ _. turn t []) (early (hit t.dir w))) (sym e)
+  pub turn_buffered : (x : ℕ) → Some x ≡ buffered_of t.fill w → read_turn v t w ≡ turn t []
+  turn_buffered x e = ap (λ (o : Option ℕ). if_some o (λ _. turn t []) (early (hit t.dir w))) (sym e)
 
   module _ (nb : None ≡ buffered_of t.fill w) where
     past : read_turn v t w ≡ early (hit t.dir w)
     past = ap (λ (o : Option ℕ). if_some o (λ _. turn t []) (early (hit t.dir w))) (sym nb)
 
-    pub turn-hit : (x : ℕ) → Some x ≡ hit t.dir w → read_turn v t w ≡ turn (touched_by t w) []
-    turn-hit x e = past ∙ ap early (sym e)
+    pub turn_hit : (x : ℕ) → Some x ≡ hit t.dir w → read_turn v t w ≡ turn (touched_by t w) []
+    turn_hit x e = past ∙ ap early (sym e)
 
     module _ (nh : None ≡ hit t.dir w) where
-      past-hit : read_turn v t w ≡ late (hit (finished v t).dir w)
-      past-hit = past ∙ ap early (sym nh)
+      past_hit : read_turn v t w ≡ late (hit (finished v t).dir w)
+      past_hit = past ∙ ap early (sym nh)
 
-      pub turn-late : (x : ℕ) → Some x ≡ hit (finished v t).dir w → read_turn v t w ≡ turn (touched_by (finished v t) w) (finish_calls v t)
-      turn-late x e = past-hit ∙ ap late (sym e)
+      pub turn_late : (x : ℕ) → Some x ≡ hit (finished v t).dir w → read_turn v t w ≡ turn (touched_by (finished v t) w) (finish_calls v t)
+      turn_late x e = past_hit ∙ ap late (sym e)
 
-      pub turn-miss : None ≡ hit (finished v t).dir w → read_turn v t w ≡ turn (begun v (finished v t).dir w) (finish_calls v t ++ (reads w (reading v w) ∷ []))
-      turn-miss e = past-hit ∙ ap late (sym e)
+      pub turn_miss : None ≡ hit (finished v t).dir w → read_turn v t w ≡ turn (begun v (finished v t).dir w) (finish_calls v t ++ (reads w (reading v w) ∷ []))
+      turn_miss e = past_hit ∙ ap late (sym e)
 
 pub coherent_as : (v : Shown) (m n : Model) → n ≡ m → Coherent v m → Coherent v n
 coherent_as v m n e = subst (λ (x : Model). Coherent v x) (sym e)
@@ -104,28 +104,28 @@ module _ (s t : State) (m n k l : Model) (w : ℕ) (a : Settles s t) (nm : n ≡
   km : k ≡ finished (shown s) m
   km = kn ∙ ap (finished (shown s)) nm
 
-  pub hit-late : (o : Option ℕ) → o ≡ hit k.dir w → o ≡ hit (finished (shown s) m).dir w
-  hit-late o e = e ∙ ap (λ (x : Model). hit x.dir w) km
+  pub hit_late : (o : Option ℕ) → o ≡ hit k.dir w → o ≡ hit (finished (shown s) m).dir w
+  hit_late o e = e ∙ ap (λ (x : Model). hit x.dir w) km
 
-  pub late-tables : l ≡ touched_by (finished (shown s) m) w
-  late-tables = lk ∙ ap (λ (x : Model). touched_by x w) km
+  pub late_tables : l ≡ touched_by (finished (shown s) m) w
+  late_tables = lk ∙ ap (λ (x : Model). touched_by x w) km
 
-  pub late-calls : finish_calls (shown s) m ≡ finish_calls (shown s) n
-  late-calls = ap (finish_calls (shown s)) (sym nm)
+  pub late_calls : finish_calls (shown s) m ≡ finish_calls (shown s) n
+  late_calls = ap (finish_calls (shown s)) (sym nm)
 
   module _ (none : None ≡ hit k.dir w) where
-    pub miss-idle : l.fill ≡ None
-    miss-idle = finished_none (shown s) m l (untouched k l w lk none ∙ km)
+    pub miss_idle : l.fill ≡ None
+    miss_idle = finished_none (shown s) m l (untouched k l w lk none ∙ km)
 
-    pub miss-absent : found l.dir (line_of w) ≡ None
-    miss-absent = ap (λ (x : Model). found x.dir (line_of w)) (untouched k l w lk none) ∙ none_found k.dir w none
+    pub miss_absent : found l.dir (line_of w) ≡ None
+    miss_absent = ap (λ (x : Model). found x.dir (line_of w)) (untouched k l w lk none) ∙ none_found k.dir w none
 
-    pub miss-tables : (o : Model) → o ≡ begun (shown t) l.dir w → o ≡ begun (shown s) (finished (shown s) m).dir w
-    miss-tables o e =
+    pub miss_tables : (o : Model) → o ≡ begun (shown t) l.dir w → o ≡ begun (shown s) (finished (shown s) m).dir w
+    miss_tables o e =
         e ∙ ap (λ (v : Shown). begun v l.dir w) (shown_kept s t a) ∙ ap (λ (x : Model). begun (shown s) x.dir w) (untouched k l w lk none ∙ km)
 
-    pub miss-calls : finish_calls (shown s) m ++ (reads w (reading (shown s) w) ∷ []) ≡ finish_calls (shown s) n ++ (reads w (reading (shown t) w) ∷ [])
-    miss-calls = ap₂ (λ (ds : List Step) (v : Shown). ds ++ (reads w (reading v w) ∷ [])) late-calls (sym (shown_kept s t a))
+    pub miss_calls : finish_calls (shown s) m ++ (reads w (reading (shown s) w) ∷ []) ≡ finish_calls (shown s) n ++ (reads w (reading (shown t) w) ∷ [])
+    miss_calls = ap₂ (λ (ds : List Step) (v : Shown). ds ++ (reads w (reading v w) ∷ [])) late_calls (sym (shown_kept s t a))
 
 -- ---- drops and clears
 
@@ -135,7 +135,7 @@ dropped_kept s t m n l e q c =
 
 pub outside_kept : (s t : State) (m n : Model) (w : Write) → t ≡ outside w s → n ≡ dropped m (line_of w.word) → Coherent (shown s) m → Coherent (shown t) n
 outside_kept s t m n w e q c =
-    subst (λ (x : State). Coherent (shown x) n) (sym e) (coherent_as (shown (outside w s)) (dropped m (line_of w.word)) n q (outside-keeps s w m c))
+    subst (λ (x : State). Coherent (shown x) n) (sym e) (coherent_as (shown (outside w s)) (dropped m (line_of w.word)) n q (outside_keeps s w m c))
 
 pub cleared_kept : (s t : State) (n : Model) → t ≡ s → n ≡ cleared → s.facts.words ≤ 8388608 → s.facts.words % 8 ≡ 0 → Coherent (shown t) n
 cleared_kept s t n e q few lined =
@@ -159,8 +159,8 @@ module _ (s t u : State) (w : Write) (a : Settles s t) (b : Settles (posted (w �
       let F : Shown → Type 0 = λ v. Coherent v o in
       subst F (sym (shown_kept (posted (w ∷ []) t) u b ∙ shown_posted t w)) (coherent_as (overwritten (shown t) w) (written n w) o e (write_keeps (shown t) w n c none))
 
-  pub write-settles : Settles (posted (w ∷ []) (raised s)) (raised u)
-  write-settles = settles_raised (posted (w ∷ []) s) u (settles_then (posted (w ∷ []) s) (posted (w ∷ []) t) u (settles_under s t (w ∷ []) a) b)
+  pub write_settles : Settles (posted (w ∷ []) (raised s)) (raised u)
+  write_settles = settles_raised (posted (w ∷ []) s) u (settles_then (posted (w ∷ []) s) (posted (w ∷ []) t) u (settles_under s t (w ∷ []) a) b)
 
 -- what the port below took before some settled it takes after
 pub taken_later : (s t : State) (w : Write) → Settles s t → write_answer s w ≡ Ok tt → write_answer t w ≡ Ok tt
@@ -178,21 +178,21 @@ pub same_answered : (s t : State) (r x : Answer) (X Y : Type 0) → r ≡ x → 
 same_answered s t r x X Y e p a = as_ok _ Y r (e ∙ p) (ap raised (in_ok _ X r (e ∙ p) a))
 
 module _ {P : Type 0} (state : P → State) (sound : P → Type 0) (b : Cache P) (q : P) (k : Tables) (c : Sound state sound b) (h : sound q) where
-  pub sound-cleared : state q ≡ state b.below → model k ≡ cleared → Sound state sound (record { below = q; tables = k })
-  sound-cleared e f = record { below = h; kept = cleared_kept (state b.below) (state q) (model k) e f c.kept.few c.kept.lined }
+  pub sound_cleared : state q ≡ state b.below → model k ≡ cleared → Sound state sound (record { below = q; tables = k })
+  sound_cleared e f = record { below = h; kept = cleared_kept (state b.below) (state q) (model k) e f c.kept.few c.kept.lined }
 
-  pub sound-dropped : (l : ℕ) (r x : Answer) (X : Type 0) → r ≡ x → x ≡ Ok tt → ByAnswer r (state q ≡ state b.below) X → model k ≡ dropped (tables_of b) l → Sound state sound (record { below = q; tables = k })
-  sound-dropped l r x X e p a f = record { below = h; kept = dropped_kept (state b.below) (state q) (tables_of b) (model k) l (in_ok _ X r (e ∙ p) a) f c.kept }
+  pub sound_dropped : (l : ℕ) (r x : Answer) (X : Type 0) → r ≡ x → x ≡ Ok tt → ByAnswer r (state q ≡ state b.below) X → model k ≡ dropped (tables_of b) l → Sound state sound (record { below = q; tables = k })
+  sound_dropped l r x X e p a f = record { below = h; kept = dropped_kept (state b.below) (state q) (tables_of b) (model k) l (in_ok _ X r (e ∙ p) a) f c.kept }
 
-  pub sound-outside : (w : Write) (r x : Answer) (X : Type 0) → r ≡ x → x ≡ Ok tt → ByAnswer r (state q ≡ outside w (state b.below)) X → model k ≡ dropped (tables_of b) (line_of w.word) → Sound state sound (record { below = q; tables = k })
-  sound-outside w r x X e p a f = record { below = h; kept = outside_kept (state b.below) (state q) (tables_of b) (model k) w (in_ok _ X r (e ∙ p) a) f c.kept }
+  pub sound_outside : (w : Write) (r x : Answer) (X : Type 0) → r ≡ x → x ≡ Ok tt → ByAnswer r (state q ≡ outside w (state b.below)) X → model k ≡ dropped (tables_of b) (line_of w.word) → Sound state sound (record { below = q; tables = k })
+  sound_outside w r x X e p a f = record { below = h; kept = outside_kept (state b.below) (state q) (tables_of b) (model k) w (in_ok _ X r (e ∙ p) a) f c.kept }
 
 module _ {P : Type 0} (does : P → Step → P → Type 0) (d : Step) (t : Model) (b : Cache P) (q : P) (k : Tables) (f : model k ≡ t) (h : does b.below d q) where
   pub takes_one : TakesTurn does (turn t (d ∷ [])) b (record { below = q; tables = k })
   takes_one = record { tables = f; below = then h done }
 
-  pub takes-answered : (r x : Answer) (Y : Type 0) → r ≡ x → x ≡ Ok tt → ByAnswer r (TakesTurn does (turn t (d ∷ [])) b (record { below = q; tables = k })) Y
-  takes-answered r x Y e p = as_ok _ Y r (e ∙ p) takes_one
+  pub takes_answered : (r x : Answer) (Y : Type 0) → r ≡ x → x ≡ Ok tt → ByAnswer r (TakesTurn does (turn t (d ∷ [])) b (record { below = q; tables = k })) Y
+  takes_answered r x Y e p = as_ok _ Y r (e ∙ p) takes_one
 
 -- the port below advances once a word has been fetched
 pub takes_advance : {P : Type 0} (does : P → Step → P → Type 0) (v : Shown) (t : Model) (b m : Cache P) (q : P) → TakesTurn does (fetch_turn v t) b m → does m.below advances q →

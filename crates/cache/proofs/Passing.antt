@@ -50,11 +50,11 @@ read_reads v t w = buffered (buffered_of t.fill w)
     buffered (Some x) = refl
 
 ready_reads : (v : Shown) (t : Model) (line : ℕ) → passed (ready_turn v t line).calls ≡ []
-ready_reads v t line = by-test (fills_open t.fill line)
+ready_reads v t line = by_test (fills_open t.fill line)
   where
-    by-test : (p : Bool) → passed (cond p (finish_turn v t) (turn t [])).calls ≡ []
-    by-test true = finish_reads v t
-    by-test false = refl
+    by_test : (p : Bool) → passed (cond p (finish_turn v t) (turn t [])).calls ≡ []
+    by_test true = finish_reads v t
+    by_test false = refl
 
 -- ---- one call, and many
 
@@ -81,11 +81,11 @@ module _ {P : Type 0} (state : P → State) (does : P → Step → P → Type 0)
   step_through (snoops w (Err _)) b c h = untouched b c h
   step_through flushes b c h = takes_through _ _ b c refl h
 
-  pub only-reads-are-kept : OnlyReadsAreKept state does
-  only-reads-are-kept b c [] done = untouched b b refl
-  only-reads-are-kept b c (d ∷ ds) (then {q = m} h k) =
+  pub only_reads_are_kept : OnlyReadsAreKept state does
+  only_reads_are_kept b c [] done = untouched b b refl
+  only_reads_are_kept b c (d ∷ ds) (then {q = m} h k) =
       let one = step_through d b m h in
-      let more = only-reads-are-kept m c ds k in
+      let more = only_reads_are_kept m c ds k in
       record {
         calls = one.calls ++ more.calls;
         chain = chain_append one.chain more.chain;

@@ -11,11 +11,11 @@ use Rattle.cache_tables.specs.Rules.{Model, hit, hit_of, touched_of, touched_by,
 
 -- the way that was looked up answers and is touched
 module _ (d e : Dir) (f : Option Fill) (w : ℕ) (k : WayNumber) (y : Way) (is : Some k ≡ found d (line_of w)) where
-  pub hit-value : y ≡ d.way (set_of (line_of w)) k → Some (get_or y.words (place_of w) 0) ≡ hit d w
-  hit-value h = ap (λ (x : Way). Some (get_or x.words (place_of w) 0)) h ∙ ap (hit_of d w) is
+  pub hit_value : y ≡ d.way (set_of (line_of w)) k → Some (get_or y.words (place_of w) 0) ≡ hit d w
+  hit_value h = ap (λ (x : Way). Some (get_or x.words (place_of w) 0)) h ∙ ap (hit_of d w) is
 
-  pub hit-after : e ≡ touched d (set_of (line_of w)) k → ◌≡◌ {A = Model} (record { dir = e; fill = f }) (touched_by (record { dir = d; fill = f }) w)
-  hit-after h = ap (λ (x : Dir). record { dir = x; fill = f }) h ∙ ap (touched_of (record { dir = d; fill = f }) w) is
+  pub hit_after : e ≡ touched d (set_of (line_of w)) k → ◌≡◌ {A = Model} (record { dir = e; fill = f }) (touched_by (record { dir = d; fill = f }) w)
+  hit_after h = ap (λ (x : Dir). record { dir = x; fill = f }) h ∙ ap (touched_of (record { dir = d; fill = f }) w) is
 
 -- it is touched, and then changed
 pub changed_open : (d e g : Dir) (f : Option Fill) (w : Write) (k : WayNumber) (y : Way) (x : ℕ) → Some k ≡ found d (line_of w.word) → y ≡ d.way (set_of (line_of w.word)) k →

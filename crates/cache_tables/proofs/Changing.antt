@@ -14,7 +14,7 @@ use Rattle.directory.specs.Dirs.{Dir, line_of, place_of, set_of, tag_of, touched
 use Rattle.directory.specs.Dirs.{dropped as droppedDir}
 use Rattle.directory.specs.Ticks.{ticked, fetched_word}
 use Rattle.directory.specs.Laws.{TagsAreApart}
-use Rattle.directory.proofs.Apart.{held, finds, apart_emptied, drop-forgets, apart_dropped, apart_changed, change-moves-none}
+use Rattle.directory.proofs.Apart.{held, finds, apart_emptied, drop_forgets, apart_dropped, apart_changed, change_moves_none}
 use Rattle.cache_tables.specs.Showing.{Shown, shown, shown_as, line_seen, all_below}
 use Rattle.cache_tables.specs.Rules.{Model, cleared, left_of, dropped, changed_word, changed_of, written, fills_open}
 use Rattle.cache_tables.specs.Coherence.{line_in, WayKept, FillKept, Coherent}
@@ -47,41 +47,41 @@ found_only v t l i k c y e = (at, finds t.dir c.apart l k has)
 
 left_fill : (v : Shown) (d e : Dir) (l : ℕ) (f : Option Fill) → ((other : ℕ) → other ≢ l → found e other ≡ found d other) → FillKept v d f → FillKept v e (left_of l f)
 left_fill v d e l None a h = tt
-left_fill v d e l (Some b) a h = by-test (eqb b.line l) refl
+left_fill v d e l (Some b) a h = by_test (eqb b.line l) refl
   where
-    by-test : (p : Bool) → eqb b.line l ≡ p → FillKept v e (cond p None (Some b))
-    by-test true q = tt
-    by-test false q = record { under = h.under; inside = h.inside; cached = h.cached; shut = h.shut; got = h.got; absent = a b.line (eqb-false b.line l q) ∙ h.absent }
+    by_test : (p : Bool) → eqb b.line l ≡ p → FillKept v e (cond p None (Some b))
+    by_test true q = tt
+    by_test false q = record { under = h.under; inside = h.inside; cached = h.cached; shut = h.shut; got = h.got; absent = a b.line (eqb-false b.line l q) ∙ h.absent }
 
 module _ (v : Shown) (t : Model) (l : ℕ) (c : Coherent v t) where
-  ways-dropped : (o : Option WayNumber) (i : ℕ) (k : WayNumber) → ((dropped_of t.dir l o).way i k).valid ≡ true → WayKept v i ((dropped_of t.dir l o).way i k)
-  ways-dropped None = c.ways
-  ways-dropped (Some k) = ways_put (WayKept v) t.dir (set_of l) k empty_way (λ j m _. c.ways j m) (λ e. absurd (both_ways false refl e))
+  ways_dropped : (o : Option WayNumber) (i : ℕ) (k : WayNumber) → ((dropped_of t.dir l o).way i k).valid ≡ true → WayKept v i ((dropped_of t.dir l o).way i k)
+  ways_dropped None = c.ways
+  ways_dropped (Some k) = ways_put (WayKept v) t.dir (set_of l) k empty_way (λ j m _. c.ways j m) (λ e. absurd (both_ways false refl e))
 
-  tags-dropped : (o : Option WayNumber) → TagsAreApart (dropped_of t.dir l o)
-  tags-dropped None = c.apart
-  tags-dropped (Some k) = apart_dropped t.dir l k c.apart
+  tags_dropped : (o : Option WayNumber) → TagsAreApart (dropped_of t.dir l o)
+  tags_dropped None = c.apart
+  tags_dropped (Some k) = apart_dropped t.dir l k c.apart
 
   pub drop_keeps : Coherent v (dropped t l)
   drop_keeps = record {
     few = c.few;
     lined = c.lined;
-    ways = ways-dropped (found t.dir l);
-    apart = tags-dropped (found t.dir l);
-    fill = left_fill v t.dir (droppedDir t.dir l) l t.fill (drop-forgets t.dir l c.apart).others c.fill;
+    ways = ways_dropped (found t.dir l);
+    apart = tags_dropped (found t.dir l);
+    fill = left_fill v t.dir (droppedDir t.dir l) l t.fill (drop_forgets t.dir l c.apart).others c.fill;
   }
 
   -- and no valid way has it
-  drop-absent : (i : ℕ) (k : WayNumber) → ((dropped t l).dir.way i k).valid ≡ true → line_in i ((dropped t l).dir.way i k) ≢ l
-  drop-absent i k y e = none_some k _ (drop-forgets t.dir l c.apart).gone (found_only v (dropped t l) l i k drop_keeps y e).1
+  drop_absent : (i : ℕ) (k : WayNumber) → ((dropped t l).dir.way i k).valid ≡ true → line_in i ((dropped t l).dir.way i k) ≢ l
+  drop_absent i k y e = none_some k _ (drop_forgets t.dir l c.apart).gone (found_only v (dropped t l) l i k drop_keeps y e).1
 
 pub left_apart : (l : ℕ) (f : Option Fill) (b : Fill) → left_of l f ≡ Some b → b.line ≢ l
 left_apart l None b e y = let z : ◌≡◌ {A = ℕ} 0 1 = cc in omega arith
-left_apart l (Some x) b e y = by-test (eqb x.line l) refl e
+left_apart l (Some x) b e y = by_test (eqb x.line l) refl e
   where
-    by-test : (p : Bool) → eqb x.line l ≡ p → cond p None (Some x) ≡ Some b → ⊥
-    by-test true q e = let z : ◌≡◌ {A = ℕ} 0 1 = cc in omega arith
-    by-test false q e = let s : x ≡ b = cc in eqb-false x.line l q (ap (λ (k : Fill). k.line) s ∙ y)
+    by_test : (p : Bool) → eqb x.line l ≡ p → cond p None (Some x) ≡ Some b → ⊥
+    by_test true q e = let z : ◌≡◌ {A = ℕ} 0 1 = cc in omega arith
+    by_test false q e = let s : x ≡ b = cc in eqb-false x.line l q (ap (λ (k : Fill). k.line) s ∙ y)
 
 pub clear_keeps : (v : Shown) → v.words ≤ 8388608 → v.words % 8 ≡ 0 → Coherent v cleared
 clear_keeps v few lined = record {
@@ -121,11 +121,11 @@ kept_alike v u i y e a h = record {
 }
 
 fetched_line : (b : Fill) (a x : ℕ) → fetched_word b a ≡ Some x → line_of a ≡ b.line
-fetched_line b a x e = by-test (eqb b.line (line_of a)) (ticked b.ticks (place_of a)) refl e
+fetched_line b a x e = by_test (eqb b.line (line_of a)) (ticked b.ticks (place_of a)) refl e
   where
-    by-test : (p q : Bool) → eqb b.line (line_of a) ≡ p → cond (p && q) (Some (get_or b.words (place_of a) 0)) None ≡ Some x → line_of a ≡ b.line
-    by-test true q h e = sym (eqb-true b.line (line_of a) h)
-    by-test false q h e = let z : ◌≡◌ {A = ℕ} 0 1 = cc in absurd (omega arith)
+    by_test : (p q : Bool) → eqb b.line (line_of a) ≡ p → cond (p && q) (Some (get_or b.words (place_of a) 0)) None ≡ Some x → line_of a ≡ b.line
+    by_test true q h e = sym (eqb-true b.line (line_of a) h)
+    by_test false q h e = let z : ◌≡◌ {A = ℕ} 0 1 = cc in absurd (omega arith)
 
 fill_alike : (v u : Shown) (d : Dir) (f : Option Fill) → Alike v u → FillSame v u f → FillKept v d f → FillKept u d f
 fill_alike v u d None e a h = tt
@@ -160,28 +160,28 @@ applied_at p (w ∷ ws) m n a e =
     applied_at p ws (stored p w m) (stored p w n) a (ap (λ (x : ℕ). cond (eqb a w.word) (cond (p (a / 8)) x (joined w.lanes x w.value)) x) e)
 
 module _ (s : State) (w : Write) where
-  outside-alike : Alike (shown s) (shown (outside w s))
-  outside-alike = record {
+  outside_alike : Alike (shown s) (shown (outside w s))
+  outside_alike = record {
     words = refl;
     cacheable = refl;
     protected = refl;
     readable = applied_readable s.protected s.waiting (stored s.protected w s.settled) ∙ sym (applied_readable s.protected s.waiting s.settled);
   }
 
-  outside-same : (l : ℕ) → l ≢ line_of w.word → Same (shown s) (shown (outside w s)) l
-  outside-same l n a e =
+  outside_same : (l : ℕ) → l ≢ line_of w.word → Same (shown s) (shown (outside w s)) l
+  outside_same l n a e =
       applied_at s.protected s.waiting (stored s.protected w s.settled) s.settled a
       (cond-false (eqb a w.word) _ _ (ne_eqb a w.word (λ q. n (sym e ∙ ap line_of q))))
 
-  fill-same : (f : Option Fill) → ((b : Fill) → f ≡ Some b → b.line ≢ line_of w.word) → FillSame (shown s) (shown (outside w s)) f
-  fill-same None a = tt
-  fill-same (Some b) a = outside-same b.line (a b refl)
+  fill_same : (f : Option Fill) → ((b : Fill) → f ≡ Some b → b.line ≢ line_of w.word) → FillSame (shown s) (shown (outside w s)) f
+  fill_same None a = tt
+  fill_same (Some b) a = outside_same b.line (a b refl)
 
-  pub outside-keeps : (t : Model) → Coherent (shown s) t → Coherent (shown (outside w s)) (dropped t (line_of w.word))
-  outside-keeps t c =
-      coherent_alike (shown s) (shown (outside w s)) (dropped t (line_of w.word)) outside-alike (drop_keeps (shown s) t (line_of w.word) c)
-      (λ i k y. outside-same (line_in i ((dropped t (line_of w.word)).dir.way i k)) (drop-absent (shown s) t (line_of w.word) c i k y))
-      (fill-same (left_of (line_of w.word) t.fill) (left_apart (line_of w.word) t.fill))
+  pub outside_keeps : (t : Model) → Coherent (shown s) t → Coherent (shown (outside w s)) (dropped t (line_of w.word))
+  outside_keeps t c =
+      coherent_alike (shown s) (shown (outside w s)) (dropped t (line_of w.word)) outside_alike (drop_keeps (shown s) t (line_of w.word) c)
+      (λ i k y. outside_same (line_in i ((dropped t (line_of w.word)).dir.way i k)) (drop_absent (shown s) t (line_of w.word) c i k y))
+      (fill_same (left_of (line_of w.word) t.fill) (left_apart (line_of w.word) t.fill))
 
 -- ---- a write of the processor
 
@@ -206,16 +206,16 @@ module _ (v : Shown) (w : Write) where
 
   -- a line keeps what it shows, unless it is the line of the write and open to it
   line_kept : (l : ℕ) → (l ≡ line → v.protected l ≡ true) → Same v (overwritten v w) l
-  line_kept l a x e = by-test (eqb x w.word) refl
+  line_kept l a x e = by_test (eqb x w.word) refl
     where
-      by-test : (q : Bool) → eqb x w.word ≡ q → cond q (cond (v.protected (x / 8)) (v.word x) (joined w.lanes (v.word x) w.value)) (v.word x) ≡ v.word x
-      by-test false h = refl
-      by-test true h =
+      by_test : (q : Bool) → eqb x w.word ≡ q → cond q (cond (v.protected (x / 8)) (v.word x) (joined w.lanes (v.word x) w.value)) (v.word x) ≡ v.word x
+      by_test false h = refl
+      by_test true h =
           cond-true (v.protected (x / 8)) (v.word x) _ (ap (λ (y : ℕ). v.protected y) e ∙ a (sym e ∙ ap line_of (eqb-true x w.word h)))
 
-  line-written : v.protected line ≡ false →
+  line_written : v.protected line ≡ false →
       set (line_seen v line) (place_of w.word) (joined w.lanes (get_or (line_seen v line) (place_of w.word) 0) w.value) ≡ line_seen (overwritten v w) line
-  line-written o = eight_set (λ p. v.word (line * 8 + p)) (λ p. (overwritten v w).word (line * 8 + p)) (place_of w.word) _ (omega arith) here other
+  line_written o = eight_set (λ p. v.word (line * 8 + p)) (λ p. (overwritten v w).word (line * 8 + p)) (place_of w.word) _ (omega arith) here other
     where
       here : (overwritten v w).word (line * 8 + place_of w.word) ≡ joined w.lanes (get_or (line_seen v line) (place_of w.word) 0) w.value
       here =
@@ -228,9 +228,9 @@ module _ (v : Shown) (w : Write) where
       other : (p : ℕ) → p < 8 → p ≢ place_of w.word → (overwritten v w).word (line * 8 + p) ≡ v.word (line * 8 + p)
       other p hp n = cond-false (eqb (line * 8 + p) w.word) _ _ (ne_eqb (line * 8 + p) w.word (λ e. n (omega arith)))
 
-  fill-open : (d : Dir) (f : Option Fill) → FillKept v d f → fills_open f line ≡ false → FillSame v (overwritten v w) f
-  fill-open d None h e = tt
-  fill-open d (Some b) h e = line_kept b.line shut
+  fill_open : (d : Dir) (f : Option Fill) → FillKept v d f → fills_open f line ≡ false → FillSame v (overwritten v w) f
+  fill_open d None h e = tt
+  fill_open d (Some b) h e = line_kept b.line shut
     where
       shut : b.line ≡ line → v.protected b.line ≡ true
       shut y =
@@ -245,7 +245,7 @@ module _ (v : Shown) (w : Write) where
     unchanged a =
         coherent_alike v (overwritten v w) t alike c
         (λ i k y. line_kept (line_in i (t.dir.way i k)) (λ e. ap (λ (x : ℕ). v.protected x) e ∙ a i k y e))
-        (fill-open t.dir t.fill c.fill none)
+        (fill_open t.dir t.fill c.fill none)
 
     module _ (k : WayNumber) (is : found t.dir line ≡ Some k) where
       abbrev way : Way
@@ -260,13 +260,13 @@ module _ (v : Shown) (w : Write) where
       abbrev mine : Way
       mine = worded_way way (place_of w.word) (changed_word t.dir w k)
 
-      kept-mine : way.protect ≡ false → WayKept (overwritten v w) (set_of line) mine
-      kept-mine o = record {
+      kept_mine : way.protect ≡ false → WayKept (overwritten v w) (set_of line) mine
+      kept_mine o = record {
         set = kept.0.set;
         inside = kept.0.inside;
         same =
             ap (λ (ws : List ℕ). set ws (place_of w.word) (joined w.lanes (get_or ws (place_of w.word) 0) w.value)) (kept.0.same ∙ ap (line_seen v) kept.1)
-            ∙ line-written (sym shut ∙ o)
+            ∙ line_written (sym shut ∙ o)
             ∙ ap (line_seen (overwritten v w)) (sym kept.1);
         legible = kept.0.legible;
         shut = kept.0.shut;
@@ -284,30 +284,30 @@ module _ (v : Shown) (w : Write) where
               both_ways (eqb j (set_of line) && same_way l k) z
               (and_from (eqb j (set_of line)) (same_way l k) (eq-eqb j (set_of line) r.0) (eq-eqb (index_of l) (index_of k) (ap index_of (some_same l k _ r.1 is))))
 
-      fill-kept : (f : Option Fill) → FillKept (overwritten v w) t.dir f → FillKept (overwritten v w) (changed t.dir w.word k (changed_word t.dir w k)) f
-      fill-kept None h = tt
-      fill-kept (Some b) h = record {
+      fill_kept : (f : Option Fill) → FillKept (overwritten v w) t.dir f → FillKept (overwritten v w) (changed t.dir w.word k (changed_word t.dir w k)) f
+      fill_kept None h = tt
+      fill_kept (Some b) h = record {
         under = h.under;
         inside = h.inside;
         cached = h.cached;
         shut = h.shut;
         got = h.got;
-        absent = change-moves-none t.dir w.word k (changed_word t.dir w k) b.line ∙ h.absent;
+        absent = change_moves_none t.dir w.word k (changed_word t.dir w k) b.line ∙ h.absent;
       }
 
-      hit-changes : way.protect ≡ false → Coherent (overwritten v w) (record { dir = changed t.dir w.word k (changed_word t.dir w k); fill = t.fill })
-      hit-changes o = record {
+      hit_changes : way.protect ≡ false → Coherent (overwritten v w) (record { dir = changed t.dir w.word k (changed_word t.dir w k); fill = t.fill })
+      hit_changes o = record {
         few = c.few;
         lined = c.lined;
-        ways = ways_put (WayKept (overwritten v w)) t.dir (set_of line) k mine others (λ _. subst (WayKept (overwritten v w) (set_of line)) (sym (cond-true way.valid mine empty_way valid)) (kept-mine o));
+        ways = ways_put (WayKept (overwritten v w)) t.dir (set_of line) k mine others (λ _. subst (WayKept (overwritten v w) (set_of line)) (sym (cond-true way.valid mine empty_way valid)) (kept_mine o));
         apart = apart_changed t.dir w.word k (changed_word t.dir w k) c.apart;
-        fill = fill-kept t.fill (fill_alike v (overwritten v w) t.dir t.fill alike (fill-open t.dir t.fill c.fill none) c.fill);
+        fill = fill_kept t.fill (fill_alike v (overwritten v w) t.dir t.fill alike (fill_open t.dir t.fill c.fill none) c.fill);
       }
 
       hit_keeps : (p : Bool) → way.protect ≡ p → Coherent (overwritten v w)
           (record { dir = cond p (touched t.dir (set_of line) k) (touched (changed t.dir w.word k (changed_word t.dir w k)) (set_of line) k); fill = t.fill })
       hit_keeps true e = touch (overwritten v w) t.dir t.fill (set_of line) k (unchanged (λ _ _ _ _. sym shut ∙ e))
-      hit_keeps false e = touch (overwritten v w) (changed t.dir w.word k (changed_word t.dir w k)) t.fill (set_of line) k (hit-changes e)
+      hit_keeps false e = touch (overwritten v w) (changed t.dir w.word k (changed_word t.dir w k)) t.fill (set_of line) k (hit_changes e)
 
     pub write_keeps : Coherent (overwritten v w) (written t w)
     write_keeps = by_answer (found t.dir line) refl

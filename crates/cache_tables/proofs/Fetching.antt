@@ -14,7 +14,7 @@ use Rattle.directory.specs.Ticks.{next_word, complete, stored}
 use Rattle.cache_tables.specs.Showing.{Shown, shown, shown_as, reading}
 use Rattle.cache_tables.specs.Rules.{Model, idle, stowed, fetched_of, fetched, fetch_calls, finished_of, finished, lacking, fetches, finish_calls}
 use Rattle.cache_tables.specs.Coherence.{Sees, Filling, FillKept, Coherent}
-use Rattle.cache_tables.proofs.Keeping.{fetch_keeps, fetch_finishes, count-more, next-inside}
+use Rattle.cache_tables.proofs.Keeping.{fetch_keeps, fetch_finishes, count_more, next_inside}
 
 -- settling never shows
 pub shown_kept : (s t : State) → Settles s t → shown t ≡ shown s
@@ -30,18 +30,18 @@ read_there s w r h e =
     e ∙ ap (λ (x : Result (Unit {0}) Fault). then_ok x (reading (shown s) w)) there
 
 pub read_ok : (v : Shown) (w x : ℕ) → Ok x ≡ reading v w → Sees v w x
-read_ok v w x = by-test (v.readable w)
+read_ok v w x = by_test (v.readable w)
   where
-    by-test : (t : Bool) → ◌≡◌ {A = Result ℕ Fault} (Ok x) (cond t (Ok (v.word w)) (Err (unreadable w))) → (t ≡ true) × (x ≡ v.word w)
-    by-test true e = (refl, (cc))
-    by-test false e = let z : ◌≡◌ {A = ℕ} 0 1 = cc in absurd (omega arith)
+    by_test : (t : Bool) → ◌≡◌ {A = Result ℕ Fault} (Ok x) (cond t (Ok (v.word w)) (Err (unreadable w))) → (t ≡ true) × (x ≡ v.word w)
+    by_test true e = (refl, (cc))
+    by_test false e = let z : ◌≡◌ {A = ℕ} 0 1 = cc in absurd (omega arith)
 
 pub read_err : (v : Shown) (w : ℕ) (x : Fault) → Err x ≡ reading v w → v.readable w ≡ false
-read_err v w x = by-test (v.readable w)
+read_err v w x = by_test (v.readable w)
   where
-    by-test : (t : Bool) → ◌≡◌ {A = Result ℕ Fault} (Err x) (cond t (Ok (v.word w)) (Err (unreadable w))) → t ≡ false
-    by-test true e = let z : ◌≡◌ {A = ℕ} 0 1 = cc in absurd (omega arith)
-    by-test false e = refl
+    by_test : (t : Bool) → ◌≡◌ {A = Result ℕ Fault} (Err x) (cond t (Ok (v.word w)) (Err (unreadable w))) → t ≡ false
+    by_test true e = let z : ◌≡◌ {A = ℕ} 0 1 = cc in absurd (omega arith)
+    by_test false e = refl
 
 pub chain_as : {P : Type 0} {does : P → Step → P → Type 0} {p q : P} (ds es : List Step) → es ≡ ds → Chain does p ds q → Chain does p es q
 chain_as {P} {does} {p} {q} ds es e c = let F : List Step → Type 0 = λ l. Chain does p l q in subst F (sym e) c
@@ -55,25 +55,25 @@ module _ (v : Shown) (d : Dir) (f : Option Fill) (b : Fill) (is : f ≡ Some b) 
   pub filling : Filling v d b
   filling = subst (λ (y : Option Fill). FillKept v d y) is c.fill
 
-  fetch-at : (t : Bool) → v.readable (next_word b) ≡ t → cond t (stowed d (stored b (v.word (next_word b)))) (idle d) ≡ fetched_of v d f
-  fetch-at t e =
+  fetch_at : (t : Bool) → v.readable (next_word b) ≡ t → cond t (stowed d (stored b (v.word (next_word b)))) (idle d) ≡ fetched_of v d f
+  fetch_at t e =
       ap (λ (y : Bool). cond y (stowed d (stored b (v.word (next_word b)))) (idle d)) (sym e) ∙ ap (fetched_of v d) (sym is)
 
   module _ (w : ℕ) (at : w ≡ next_word b) where
-    pub fetch-inside : w < v.words
-    fetch-inside = omega (arith, at, next-inside v d b filling)
+    pub fetch_inside : w < v.words
+    fetch_inside = omega (arith, at, next_inside v d b filling)
 
-    pub fetch-ok : (x : ℕ) (m : Model) → Ok x ≡ reading v w → m ≡ stowed d (stored b x) → m ≡ fetched_of v d f
-    fetch-ok x m r e =
+    pub fetch_ok : (x : ℕ) (m : Model) → Ok x ≡ reading v w → m ≡ stowed d (stored b x) → m ≡ fetched_of v d f
+    fetch_ok x m r e =
         let sees = read_ok v w x r in
         e ∙ ap (λ (y : ℕ). stowed d (stored b y)) (sees.1 ∙ ap (λ (y : ℕ). v.word y) at)
-        ∙ fetch-at true (ap (λ (y : ℕ). v.readable y) (sym at) ∙ sees.0)
+        ∙ fetch_at true (ap (λ (y : ℕ). v.readable y) (sym at) ∙ sees.0)
 
-    pub fetch-err : (x : Fault) → Err x ≡ reading v w → idle d ≡ fetched_of v d f
-    fetch-err x r = fetch-at false (ap (λ (y : ℕ). v.readable y) (sym at) ∙ read_err v w x r)
+    pub fetch_err : (x : Fault) → Err x ≡ reading v w → idle d ≡ fetched_of v d f
+    fetch_err x r = fetch_at false (ap (λ (y : ℕ). v.readable y) (sym at) ∙ read_err v w x r)
 
-    pub fetch-chain : {P : Type 0} {does : P → Step → P → Type 0} {p q : P} (r : Result ℕ Fault) → r ≡ reading v w → does p (reads w r) q → Chain does p (fetch_calls v f) q
-    fetch-chain r e h =
+    pub fetch_chain : {P : Type 0} {does : P → Step → P → Type 0} {p q : P} (r : Result ℕ Fault) → r ≡ reading v w → does p (reads w r) q → Chain does p (fetch_calls v f) q
+    fetch_chain r e h =
         chain_as (reads (next_word b) (reading v (next_word b)) ∷ []) (fetch_calls v f) (ap (fetch_calls v) is)
         (one_read w (next_word b) r (reading v (next_word b)) at (e ∙ ap (reading v) at) h)
 
@@ -98,48 +98,48 @@ module _ (v : Shown) (d : Dir) (b : Fill) (c : Coherent v (record { dir = d; fil
   abbrev next : Fill
   next = stored b (v.word (next_word b))
 
-  pub fetch-falls : lacking (fetched_of v d (Some b)).fill < lacking (Some b)
-  fetch-falls = by_read (v.readable (next_word b)) refl
+  pub fetch_falls : lacking (fetched_of v d (Some b)).fill < lacking (Some b)
+  fetch_falls = by_read (v.readable (next_word b)) refl
     where
-      by-full : (full : Bool) → v.readable (next_word b) ≡ true → lacking (cond full (idle (installed d b.line b.way b.protect next.words)) (record { dir = d; fill = Some next })).fill < 8 - ones b.ticks
-      by-full true e = omega (arith, c.fill.under.short)
-      by-full false e = omega (arith, c.fill.under.short, count-more v d b c.fill e)
+      by_full : (full : Bool) → v.readable (next_word b) ≡ true → lacking (cond full (idle (installed d b.line b.way b.protect next.words)) (record { dir = d; fill = Some next })).fill < 8 - ones b.ticks
+      by_full true e = omega (arith, c.fill.under.short)
+      by_full false e = omega (arith, c.fill.under.short, count_more v d b c.fill e)
 
       by_read : (r : Bool) → v.readable (next_word b) ≡ r → lacking (cond r (stowed d next) (idle d)).fill < 8 - ones b.ticks
-      by_read true e = by-full (complete next) e
+      by_read true e = by_full (complete next) e
       by_read false e = omega (arith, c.fill.under.short)
 
   -- the rest of the fetches are those of the fill as it then is
   rest : fetches (7 - ones b.ticks) v (fetched_of v d (Some b)) ≡ finish_calls v (fetched_of v d (Some b))
   rest = by_read (v.readable (next_word b)) refl
     where
-      by-full : (full : Bool) → v.readable (next_word b) ≡ true →
+      by_full : (full : Bool) → v.readable (next_word b) ≡ true →
           fetches (7 - ones b.ticks) v (cond full (idle (installed d b.line b.way b.protect next.words)) (record { dir = d; fill = Some next })) ≡
           finish_calls v (cond full (idle (installed d b.line b.way b.protect next.words)) (record { dir = d; fill = Some next }))
-      by-full true e = fetches_none (7 - ones b.ticks) v (installed d b.line b.way b.protect next.words)
-      by-full false e =
-          let same : 7 - ones b.ticks ≡ 8 - ones next.ticks = omega (arith, count-more v d b c.fill e) in
+      by_full true e = fetches_none (7 - ones b.ticks) v (installed d b.line b.way b.protect next.words)
+      by_full false e =
+          let same : 7 - ones b.ticks ≡ 8 - ones next.ticks = omega (arith, count_more v d b c.fill e) in
           ap (λ (n : ℕ). fetches n v (record { dir = d; fill = Some next })) same
 
       by_read : (r : Bool) → v.readable (next_word b) ≡ r → fetches (7 - ones b.ticks) v (cond r (stowed d next) (idle d)) ≡ finish_calls v (cond r (stowed d next) (idle d))
-      by_read true e = by-full (complete next) e
+      by_read true e = by_full (complete next) e
       by_read false e = fetches_none (7 - ones b.ticks) v d
 
-  fetch-first : finish_calls v (record { dir = d; fill = Some b }) ≡ fetch_calls v (Some b) ++ finish_calls v (fetched_of v d (Some b))
-  fetch-first =
+  fetch_first : finish_calls v (record { dir = d; fill = Some b }) ≡ fetch_calls v (Some b) ++ finish_calls v (fetched_of v d (Some b))
+  fetch_first =
       let more : 8 - ones b.ticks ≡ suc (7 - ones b.ticks) = omega (arith, c.fill.under.short) in
       ap (λ (n : ℕ). fetches n v (record { dir = d; fill = Some b })) more ∙ ap (λ (l : List Step). fetch_calls v (Some b) ++ l) rest
 
 pub fetch_less : (v : Shown) (d : Dir) (f : Option Fill) (n : Model) → Coherent v (record { dir = d; fill = f }) → n ≡ fetched_of v d f → is_some f ≡ true → lacking n.fill < lacking f
 fetch_less v d None n c e y = absurd (both_ways false refl y)
-fetch_less v d (Some b) n c e y = subst (λ (x : Model). lacking x.fill < lacking (Some b)) (sym e) (fetch-falls v d b c)
+fetch_less v d (Some b) n c e y = subst (λ (x : Model). lacking x.fill < lacking (Some b)) (sym e) (fetch_falls v d b c)
 
 -- one turn of finishing
 pub finish_chain : {P : Type 0} {does : P → Step → P → Type 0} {p q end : P} (v : Shown) (d : Dir) (f : Option Fill) (n : Model) → Coherent v (record { dir = d; fill = f }) → n ≡ fetched_of v d f → is_some f ≡ true →
     Chain does p (fetch_calls v f) q → Chain does q (finish_calls v n) end → Chain does p (finish_calls v (record { dir = d; fill = f })) end
 finish_chain v d None n c e y h k = absurd (both_ways false refl y)
 finish_chain v d (Some b) n c e y h k =
-    chain_as _ _ (fetch-first v d b c) (chain_append h (chain_as (finish_calls v n) (finish_calls v (fetched_of v d (Some b))) (ap (finish_calls v) (sym e)) k))
+    chain_as _ _ (fetch_first v d b c) (chain_append h (chain_as (finish_calls v n) (finish_calls v (fetched_of v d (Some b))) (ap (finish_calls v) (sym e)) k))
 
 pub finish_again : (s s' : State) (m n : Model) → Settles s s' → Coherent (shown s') m → n ≡ fetched (shown s') m → finished (shown s) n ≡ finished (shown s) m
 finish_again s s' m n a c e =

@@ -11,7 +11,7 @@ use Rattle.directory.specs.Dirs.{Dir, line_of, place_of, set_of, tag_of, put, to
 use Rattle.directory.specs.Ticks.{ticked, ticks_after, next_place, next_word, complete, stored, fetched_word}
 use Rattle.directory.proofs.Apart.{apart_installed}
 use Rattle.directory.proofs.Touching.{index_injective}
-use Rattle.directory.proofs.Ticking.{next_small, stored-count, stored-ordered, store-adds, ticked_all}
+use Rattle.directory.proofs.Ticking.{next_small, stored_count, stored_ordered, store_adds, ticked_all}
 use Rattle.cache_tables.specs.Showing.{Shown, line_seen, whole}
 use Rattle.cache_tables.specs.Rules.{idle, stowed, fetched_of, finished_of, finished}
 use Rattle.cache_tables.specs.Coherence.{Sees, WayKept, Filling, FillKept, Coherent}
@@ -25,11 +25,11 @@ same_way_lem j k e = index_injective j k (eqb-true (index_of j) (index_of k) e)
 pub ways_put : (P : ℕ → Way → Type 0) (d : Dir) (i : ℕ) (k : WayNumber) (y : Way) →
     ((j : ℕ) (l : WayNumber) → (eqb j i && same_way l k) ≡ false → (d.way j l).valid ≡ true → P j (d.way j l)) → ((masked y).valid ≡ true → P i (masked y)) →
     (j : ℕ) (l : WayNumber) → ((put d i k y).way j l).valid ≡ true → P j ((put d i k y).way j l)
-ways_put P d i k y a b j l = by-test (eqb j i && same_way l k) refl
+ways_put P d i k y a b j l = by_test (eqb j i && same_way l k) refl
   where
-    by-test : (t : Bool) → (eqb j i && same_way l k) ≡ t → (cond t (masked y) (d.way j l)).valid ≡ true → P j (cond t (masked y) (d.way j l))
-    by-test true e h = subst (λ (x : ℕ). P x (masked y)) (sym (eqb-true j i (and_parts (eqb j i) (same_way l k) e).0)) (b h)
-    by-test false e h = a j l e h
+    by_test : (t : Bool) → (eqb j i && same_way l k) ≡ t → (cond t (masked y) (d.way j l)).valid ≡ true → P j (cond t (masked y) (d.way j l))
+    by_test true e h = subst (λ (x : ℕ). P x (masked y)) (sym (eqb-true j i (and_parts (eqb j i) (same_way l k) e).0)) (b h)
+    by_test false e h = a j l e h
 
 -- the fill is given up
 pub abandon : (v : Shown) (d : Dir) (f : Option Fill) → Coherent v (record { dir = d; fill = f }) → Coherent v (idle d)
@@ -71,102 +71,102 @@ install_fill v d f b ws c inside shut absent same legible =
 
 pub finish_keeps : (v : Shown) (d : Dir) (f : Option Fill) → Coherent v (record { dir = d; fill = f }) → Coherent v (finished_of v d f)
 finish_keeps v d None c = abandon v d None c
-finish_keeps v d (Some b) c = by-test (whole v b.line) refl
+finish_keeps v d (Some b) c = by_test (whole v b.line) refl
   where
-    by-test : (t : Bool) → whole v b.line ≡ t → Coherent v (idle (cond t (installed d b.line b.way b.protect (line_seen v b.line)) d))
-    by-test true e = install_fill v d (Some b) b (line_seen v b.line) c c.fill.inside c.fill.shut c.fill.absent refl e
-    by-test false e = abandon v d (Some b) c
+    by_test : (t : Bool) → whole v b.line ≡ t → Coherent v (idle (cond t (installed d b.line b.way b.protect (line_seen v b.line)) d))
+    by_test true e = install_fill v d (Some b) b (line_seen v b.line) c c.fill.inside c.fill.shut c.fill.absent refl e
+    by_test false e = abandon v d (Some b) c
 
 -- ---- one word comes
 
 module _ (v : Shown) (d : Dir) (b : Fill) (h : Filling v d b) where
-  pub next-below : next_place b < 8
-  next-below = next_small b h.under
+  pub next_below : next_place b < 8
+  next_below = next_small b h.under
 
-  pub next-inside : next_word b < v.words
-  next-inside = omega (arith, next-below, h.inside)
+  pub next_inside : next_word b < v.words
+  next_inside = omega (arith, next_below, h.inside)
 
   module _ (r : v.readable (next_word b) ≡ true) where
-    got-more : (w x : ℕ) → fetched_word (stored b (v.word (next_word b))) w ≡ Some x → Sees v w x
-    got-more w x e =
+    got_more : (w x : ℕ) → fetched_word (stored b (v.word (next_word b))) w ≡ Some x → Sees v w x
+    got_more w x e =
         elim (cases_eq w (next_word b)) [
-          | inl y ↦ (let same : Some (v.word (next_word b)) ≡ Some x = sym (store-adds b h.under (v.word (next_word b))).new ∙ ap (fetched_word (stored b (v.word (next_word b)))) (sym y) ∙ e in
+          | inl y ↦ (let same : Some (v.word (next_word b)) ≡ Some x = sym (store_adds b h.under (v.word (next_word b))).new ∙ ap (fetched_word (stored b (v.word (next_word b)))) (sym y) ∙ e in
               let value : v.word (next_word b) ≡ x = cc in
               (ap (λ (a : ℕ). v.readable a) y ∙ r, sym value ∙ ap (λ (a : ℕ). v.word a) (sym y)))
-          | inr n ↦ h.got w x (sym ((store-adds b h.under (v.word (next_word b))).others w n) ∙ e)
+          | inr n ↦ h.got w x (sym ((store_adds b h.under (v.word (next_word b))).others w n) ∙ e)
         ]
 
-    pub count-more : ones (stored b (v.word (next_word b))).ticks ≡ ones b.ticks + 1
-    count-more = stored-count b h.under (v.word (next_word b))
+    pub count_more : ones (stored b (v.word (next_word b))).ticks ≡ ones b.ticks + 1
+    count_more = stored_count b h.under (v.word (next_word b))
 
-    pub filling-more : ones (stored b (v.word (next_word b))).ticks < 8 → Filling v d (stored b (v.word (next_word b)))
-    filling-more s = record {
-      under = record { ordered = stored-ordered b h.under (v.word (next_word b)); short = s };
+    pub filling_more : ones (stored b (v.word (next_word b))).ticks < 8 → Filling v d (stored b (v.word (next_word b)))
+    filling_more s = record {
+      under = record { ordered = stored_ordered b h.under (v.word (next_word b)); short = s };
       inside = h.inside;
       cached = h.cached;
       shut = h.shut;
-      got = got-more;
+      got = got_more;
       absent = h.absent;
     }
 
     module _ (full : ones (stored b (v.word (next_word b))).ticks ≡ 8) where
-      all-ticked : (p : ℕ) → p < 8 → ticked (stored b (v.word (next_word b))).ticks p ≡ true
-      all-ticked p hp =
-          ap (λ (x : ℕ). ticked x p) ((stored-ordered b h.under (v.word (next_word b))).order ∙ ap (ticks_after b.first) full) ∙ ticked_all b.first p h.under.ordered.place hp
+      all_ticked : (p : ℕ) → p < 8 → ticked (stored b (v.word (next_word b))).ticks p ≡ true
+      all_ticked p hp =
+          ap (λ (x : ℕ). ticked x p) ((stored_ordered b h.under (v.word (next_word b))).order ∙ ap (ticks_after b.first) full) ∙ ticked_all b.first p h.under.ordered.place hp
 
-      sees-all : (p : ℕ) → p < 8 → Sees v (b.line * 8 + p) (get_or (stored b (v.word (next_word b))).words p 0)
-      sees-all p hp =
+      sees_all : (p : ℕ) → p < 8 → Sees v (b.line * 8 + p) (get_or (stored b (v.word (next_word b))).words p 0)
+      sees_all p hp =
           let b' = stored b (v.word (next_word b)) in
           let at : line_of (b.line * 8 + p) ≡ b.line = omega arith in
           let place : place_of (b.line * 8 + p) ≡ p = omega arith in
-          got-more (b.line * 8 + p) (get_or b'.words p 0)
+          got_more (b.line * 8 + p) (get_or b'.words p 0)
           (cond-true (eqb b.line (line_of (b.line * 8 + p)) && ticked b'.ticks (place_of (b.line * 8 + p))) _ None
-          (and_from _ _ (eq-eqb b.line (line_of (b.line * 8 + p)) (sym at)) (ap (ticked b'.ticks) place ∙ all-ticked p hp))
+          (and_from _ _ (eq-eqb b.line (line_of (b.line * 8 + p)) (sym at)) (ap (ticked b'.ticks) place ∙ all_ticked p hp))
           ∙ ap (λ (q : ℕ). Some (get_or b'.words q 0)) place)
 
-      pub words-full : (stored b (v.word (next_word b))).words ≡ line_seen v b.line
-      words-full = eight_is _ (λ p. v.word (b.line * 8 + p)) (stored-ordered b h.under (v.word (next_word b))).sized (λ p hp. (sees-all p hp).1)
+      pub words_full : (stored b (v.word (next_word b))).words ≡ line_seen v b.line
+      words_full = eight_is _ (λ p. v.word (b.line * 8 + p)) (stored_ordered b h.under (v.word (next_word b))).sized (λ p hp. (sees_all p hp).1)
 
-      pub whole-full : whole v b.line ≡ true
-      whole-full = all_from (λ p. v.readable (b.line * 8 + p)) 8 (λ p hp. (sees-all p hp).0)
+      pub whole_full : whole v b.line ≡ true
+      whole_full = all_from (λ p. v.readable (b.line * 8 + p)) 8 (λ p hp. (sees_all p hp).0)
 
 -- a word that cannot be read
 pub not_whole : (v : Shown) (d : Dir) (b : Fill) → Filling v d b → v.readable (next_word b) ≡ false → whole v b.line ≡ false
-not_whole v d b h e = not_all (λ p. v.readable (b.line * 8 + p)) 8 (next_place b) (next-below v d b h) e
+not_whole v d b h e = not_all (λ p. v.readable (b.line * 8 + p)) 8 (next_place b) (next_below v d b h) e
 
 -- one word fetched: the tables stay coherent, to finish them comes to the same, and fewer words are lacking
 module _ (v : Shown) (d : Dir) (b : Fill) (c : Coherent v (record { dir = d; fill = Some b })) where
   abbrev next : Fill
   next = stored b (v.word (next_word b))
 
-  pub stow-keeps : v.readable (next_word b) ≡ true → (t : Bool) → complete next ≡ t → Coherent v (cond t (idle (installed d b.line b.way b.protect next.words)) (record { dir = d; fill = Some next }))
-  stow-keeps r true e =
+  pub stow_keeps : v.readable (next_word b) ≡ true → (t : Bool) → complete next ≡ t → Coherent v (cond t (idle (installed d b.line b.way b.protect next.words)) (record { dir = d; fill = Some next }))
+  stow_keeps r true e =
       let full = eqb-true (ones next.ticks) 8 e in
-      install_fill v d (Some b) next next.words c c.fill.inside c.fill.shut c.fill.absent (words-full v d b c.fill r full) (whole-full v d b c.fill r full)
-  stow-keeps r false e =
-      let n : ones next.ticks < 8 = omega (arith, count-more v d b c.fill r, c.fill.under.short, eqb-false (ones next.ticks) 8 e) in
-      record { few = c.few; lined = c.lined; ways = c.ways; apart = c.apart; fill = filling-more v d b c.fill r n }
+      install_fill v d (Some b) next next.words c c.fill.inside c.fill.shut c.fill.absent (words_full v d b c.fill r full) (whole_full v d b c.fill r full)
+  stow_keeps r false e =
+      let n : ones next.ticks < 8 = omega (arith, count_more v d b c.fill r, c.fill.under.short, eqb-false (ones next.ticks) 8 e) in
+      record { few = c.few; lined = c.lined; ways = c.ways; apart = c.apart; fill = filling_more v d b c.fill r n }
 
-  pub stow-finishes : v.readable (next_word b) ≡ true → (t : Bool) → complete next ≡ t →
+  pub stow_finishes : v.readable (next_word b) ≡ true → (t : Bool) → complete next ≡ t →
       finished v (cond t (idle (installed d b.line b.way b.protect next.words)) (record { dir = d; fill = Some next })) ≡ finished_of v d (Some b)
-  stow-finishes r true e =
+  stow_finishes r true e =
       let full = eqb-true (ones next.ticks) 8 e in
-      ap (λ (ws : List ℕ). idle (installed d b.line b.way b.protect ws)) (words-full v d b c.fill r full)
-      ∙ ap (λ (t : Bool). idle (cond t (installed d b.line b.way b.protect (line_seen v b.line)) d)) (sym (whole-full v d b c.fill r full))
-  stow-finishes r false e = refl
+      ap (λ (ws : List ℕ). idle (installed d b.line b.way b.protect ws)) (words_full v d b c.fill r full)
+      ∙ ap (λ (t : Bool). idle (cond t (installed d b.line b.way b.protect (line_seen v b.line)) d)) (sym (whole_full v d b c.fill r full))
+  stow_finishes r false e = refl
 
 pub fetch_keeps : (v : Shown) (d : Dir) (f : Option Fill) → Coherent v (record { dir = d; fill = f }) → Coherent v (fetched_of v d f)
 fetch_keeps v d None c = abandon v d None c
-fetch_keeps v d (Some b) c = by-test (v.readable (next_word b)) refl
+fetch_keeps v d (Some b) c = by_test (v.readable (next_word b)) refl
   where
-    by-test : (t : Bool) → v.readable (next_word b) ≡ t → Coherent v (cond t (stowed d (stored b (v.word (next_word b)))) (idle d))
-    by-test true e = stow-keeps v d b c e (complete (stored b (v.word (next_word b)))) refl
-    by-test false e = abandon v d (Some b) c
+    by_test : (t : Bool) → v.readable (next_word b) ≡ t → Coherent v (cond t (stowed d (stored b (v.word (next_word b)))) (idle d))
+    by_test true e = stow_keeps v d b c e (complete (stored b (v.word (next_word b)))) refl
+    by_test false e = abandon v d (Some b) c
 
 pub fetch_finishes : (v : Shown) (d : Dir) (f : Option Fill) → Coherent v (record { dir = d; fill = f }) → finished v (fetched_of v d f) ≡ finished_of v d f
 fetch_finishes v d None c = refl
-fetch_finishes v d (Some b) c = by-test (v.readable (next_word b)) refl
+fetch_finishes v d (Some b) c = by_test (v.readable (next_word b)) refl
   where
-    by-test : (t : Bool) → v.readable (next_word b) ≡ t → finished v (cond t (stowed d (stored b (v.word (next_word b)))) (idle d)) ≡ finished_of v d (Some b)
-    by-test true e = stow-finishes v d b c e (complete (stored b (v.word (next_word b)))) refl
-    by-test false e = ap (λ (t : Bool). idle (cond t (installed d b.line b.way b.protect (line_seen v b.line)) d)) (sym (not_whole v d b c.fill e))
+    by_test : (t : Bool) → v.readable (next_word b) ≡ t → finished v (cond t (stowed d (stored b (v.word (next_word b)))) (idle d)) ≡ finished_of v d (Some b)
+    by_test true e = stow_finishes v d b c e (complete (stored b (v.word (next_word b)))) refl
+    by_test false e = ap (λ (t : Bool). idle (cond t (installed d b.line b.way b.protect (line_seen v b.line)) d)) (sym (not_whole v d b c.fill e))

@@ -4,13 +4,13 @@ use Rattle.directory.specs.declared.marks.WayNumber.{WayNumber}
 use Rattle.directory.specs.declared.fills.Fill.{Fill}
 use Rattle.directory.specs.Dirs.{Dir, line_of, found, installed, dropped_of}
 use Rattle.directory.specs.Ticks.{next_word, complete, stored}
-use Rattle.directory.proofs.Apart.{drop-forgets}
+use Rattle.directory.proofs.Apart.{drop_forgets}
 use Rattle.cache_tables.specs.Showing.{Shown}
 use Rattle.cache_tables.specs.Rules.{Model, idle, stowed, fetched_of, finished_of, lacking, begun_fill, begun, dropped}
 use Rattle.cache_tables.specs.Coherence.{Coherent}
 use Rattle.cache_tables.specs.Laws.{NamedAtTheMiss, SameLineAndWay, LineIsGone, fetched_times, CachingIsLawful}
 use Rattle.cache_tables.proofs.Keeping.{fetch_keeps, fetch_finishes}
-use Rattle.cache_tables.proofs.Fetching.{shown_kept, fetch-falls}
+use Rattle.cache_tables.proofs.Fetching.{shown_kept, fetch_falls}
 use Rattle.cache_tables.proofs.Reading.{buffered_sees, hit_sees}
 use Rattle.cache_tables.proofs.Changing.{left_apart}
 
@@ -34,15 +34,15 @@ goes_on : (v : Shown) (d : Dir) (f : Option Fill) (b c : Fill) → f ≡ Some b 
 goes_on v d None b c is e = no_fill b is
 goes_on v d (Some a) b c is e = by_read (v.readable (next_word a)) e
   where
-    by-full : (full : Bool) → (cond full (idle (installed d a.line a.way a.protect (stored a (v.word (next_word a))).words)) (record { dir = d; fill = Some (stored a (v.word (next_word a))) })).fill ≡ Some c → SameLineAndWay b c
-    by-full true e = no_fill c e
-    by-full false e =
+    by_full : (full : Bool) → (cond full (idle (installed d a.line a.way a.protect (stored a (v.word (next_word a))).words)) (record { dir = d; fill = Some (stored a (v.word (next_word a))) })).fill ≡ Some c → SameLineAndWay b c
+    by_full true e = no_fill c e
+    by_full false e =
         let same = same_fill (stored a (v.word (next_word a))) c e in
         let began = sym (same_fill a b is) in
         record { line = ap (λ (x : Fill). x.line) same ∙ ap (λ (x : Fill). x.line) began; way = ap (λ (x : Fill). x.way) same ∙ ap (λ (x : Fill). x.way) began }
 
     by_read : (r : Bool) → (cond r (stowed d (stored a (v.word (next_word a)))) (idle d)).fill ≡ Some c → SameLineAndWay b c
-    by_read true e = by-full (complete (stored a (v.word (next_word a)))) e
+    by_read true e = by_full (complete (stored a (v.word (next_word a)))) e
     by_read false e = no_fill c e
 
 finishes : (v : Shown) (n : ℕ) (d : Dir) (f : Option Fill) → Coherent v (record { dir = d; fill = f }) → lacking f ≤ n → fetched_times n v (record { dir = d; fill = f }) ≡ finished_of v d f
@@ -51,13 +51,13 @@ finishes v zero d (Some b) c h = absurd (omega (arith, c.fill.under.short))
 finishes v (suc n) d None c h = finishes v n d None c (omega arith)
 finishes v (suc n) d (Some b) c h =
     let next = fetched_of v d (Some b) in
-    finishes v n next.dir next.fill (fetch_keeps v d (Some b) c) (omega (arith, fetch-falls v d b c)) ∙ fetch_finishes v d (Some b) c
+    finishes v n next.dir next.fill (fetch_keeps v d (Some b) c) (omega (arith, fetch_falls v d b c)) ∙ fetch_finishes v d (Some b) c
 
 gone : (v : Shown) (t : Model) (line : ℕ) → Coherent v t → LineIsGone t (dropped t line) line
 gone v t line c = record {
   buffer = left_apart line t.fill;
-  way = (drop-forgets t.dir line c.apart).gone;
-  others = (drop-forgets t.dir line c.apart).others;
+  way = (drop_forgets t.dir line c.apart).gone;
+  others = (drop_forgets t.dir line c.apart).others;
   marks = by_answer (found t.dir line);
 }
   where

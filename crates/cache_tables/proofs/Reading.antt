@@ -18,7 +18,7 @@ use Rattle.cache_tables.specs.Showing.{Shown, shown, reading}
 use Rattle.cache_tables.specs.Rules.{Model, idle, buffered_of, hit_of, hit, touched_of, touched_by, begun_fill, begun}
 use Rattle.cache_tables.specs.Coherence.{line_in, Sees, WayKept, Filling, FillKept, Coherent}
 use Rattle.cache_tables.proofs.Lines.{eight_at, all_at, line_word, line_set, line_inside}
-use Rattle.cache_tables.proofs.Keeping.{touch, abandon, filling-more, count-more}
+use Rattle.cache_tables.proofs.Keeping.{touch, abandon, filling_more, count_more}
 use Rattle.cache_tables.proofs.Fetching.{shown_kept, move, read_ok, read_err}
 
 -- ---- the line buffer answers
@@ -97,22 +97,22 @@ nothing_fetched w k p a x e =
 starts_there : (w : ℕ) (k : WayNumber) (p : Bool) → next_word (starting w k p) ≡ w
 starts_there w k p =
     let hp : place_of w < 8 = omega arith in
-    ap (λ (x : ℕ). line_of w * 8 + x) (ap (bit_xor (place_of w)) ones_zero ∙ xor-none (place_of w) hp) ∙ line_word w
+    ap (λ (x : ℕ). line_of w * 8 + x) (ap (bit_xor (place_of w)) ones_zero ∙ xor_none (place_of w) hp) ∙ line_word w
   where
-    xor-none : (first : ℕ) → first < 8 → bit_xor first 0 ≡ first
-    xor-none zero h = refl
-    xor-none (suc zero) h = refl
-    xor-none (suc (suc zero)) h = refl
-    xor-none (suc (suc (suc zero))) h = refl
-    xor-none (suc (suc (suc (suc zero)))) h = refl
-    xor-none (suc (suc (suc (suc (suc zero))))) h = refl
-    xor-none (suc (suc (suc (suc (suc (suc zero)))))) h = refl
-    xor-none (suc (suc (suc (suc (suc (suc (suc zero))))))) h = refl
-    xor-none (suc (suc (suc (suc (suc (suc (suc (suc p)))))))) h = absurd (omega arith)
+    xor_none : (first : ℕ) → first < 8 → bit_xor first 0 ≡ first
+    xor_none zero h = refl
+    xor_none (suc zero) h = refl
+    xor_none (suc (suc zero)) h = refl
+    xor_none (suc (suc (suc zero))) h = refl
+    xor_none (suc (suc (suc (suc zero)))) h = refl
+    xor_none (suc (suc (suc (suc (suc zero))))) h = refl
+    xor_none (suc (suc (suc (suc (suc (suc zero)))))) h = refl
+    xor_none (suc (suc (suc (suc (suc (suc (suc zero))))))) h = refl
+    xor_none (suc (suc (suc (suc (suc (suc (suc (suc p)))))))) h = absurd (omega arith)
 
 module _ (v : Shown) (d : Dir) (w : ℕ) (c : Coherent v (idle d)) (inside : w < v.words) (absent : found d (line_of w) ≡ None) where
-  begin-fill : (k : WayNumber) → v.cacheable (line_of w) ≡ true → Filling v d (starting w k (v.protected (line_of w)))
-  begin-fill k cached = record {
+  begin_fill : (k : WayNumber) → v.cacheable (line_of w) ≡ true → Filling v d (starting w k (v.protected (line_of w)))
+  begin_fill k cached = record {
     under = starts w k (v.protected (line_of w)) (omega (arith, inside, c.few));
     inside = line_inside w v.words inside c.lined;
     cached = cached;
@@ -121,8 +121,8 @@ module _ (v : Shown) (d : Dir) (w : ℕ) (c : Coherent v (idle d)) (inside : w <
     absent = absent;
   }
 
-  pub begin-keeps : Coherent v (begun v d w)
-  begin-keeps = by_tests (v.readable w) (v.cacheable (line_of w)) refl refl
+  pub begin_keeps : Coherent v (begun v d w)
+  begin_keeps = by_tests (v.readable w) (v.cacheable (line_of w)) refl refl
     where
       by_tests : (r k : Bool) → v.readable w ≡ r → v.cacheable (line_of w) ≡ k →
           Coherent v (cond (r && k) (record { dir = d; fill = Some (begun_fill d w (v.protected (line_of w)) (v.word w)) }) (idle d))
@@ -131,11 +131,11 @@ module _ (v : Shown) (d : Dir) (w : ℕ) (c : Coherent v (idle d)) (inside : w <
       by_tests true true er ek =
           let n = victim_of (d.marks (set_of (line_of w))) in
           let b = starting w n (v.protected (line_of w)) in
-          let h = begin-fill n ek in
+          let h = begin_fill n ek in
           let at = starts_there w n (v.protected (line_of w)) in
           let r : v.readable (next_word b) ≡ true = ap (λ (x : ℕ). v.readable x) at ∙ er in
           subst (λ (x : ℕ). Coherent v (record { dir = d; fill = Some (stored b (v.word x)) })) at
-          (record { few = c.few; lined = c.lined; ways = c.ways; apart = c.apart; fill = filling-more v d b h r (omega (arith, count-more v d b h r, ones_zero)) })
+          (record { few = c.few; lined = c.lined; ways = c.ways; apart = c.apart; fill = filling_more v d b h r (omega (arith, count_more v d b h r, ones_zero)) })
 
 -- ---- the miss, as the code goes about it
 
@@ -162,11 +162,11 @@ module _ (s t : State) (d : Dir) (f : Option Fill) (w : ℕ) (none : f ≡ None)
   still : ◌≡◌ {A = Model} (record { dir = d; fill = f }) (idle d)
   still = ap (λ (o : Option Fill). record { dir = d; fill = o }) none
 
-  pub miss-kept : (m : Model) → Coherent (shown s) (record { dir = d; fill = f }) → w < s.facts.words → found d (line_of w) ≡ None → m ≡ begun (shown s) d w → Coherent (shown t) m
-  miss-kept m c h e q = move s t m a (subst (λ (x : Model). Coherent (shown s) x) (sym q) (begin-keeps (shown s) d w (abandon (shown s) d f c) h e))
+  pub miss_kept : (m : Model) → Coherent (shown s) (record { dir = d; fill = f }) → w < s.facts.words → found d (line_of w) ≡ None → m ≡ begun (shown s) d w → Coherent (shown t) m
+  miss_kept m c h e q = move s t m a (subst (λ (x : Model). Coherent (shown s) x) (sym q) (begin_keeps (shown s) d w (abandon (shown s) d f c) h e))
 
-  pub miss-err : (x : Fault) → Err x ≡ reading (shown s) w → ◌≡◌ {A = Model} (record { dir = d; fill = f }) (begun (shown s) d w)
-  miss-err x y = still ∙ sym (begun_at (shown s) d w false (s.facts.cacheable (line_of w)) (read_err (shown s) w x y) refl)
+  pub miss_err : (x : Fault) → Err x ≡ reading (shown s) w → ◌≡◌ {A = Model} (record { dir = d; fill = f }) (begun (shown s) d w)
+  miss_err x y = still ∙ sym (begun_at (shown s) d w false (s.facts.cacheable (line_of w)) (read_err (shown s) w x y) refl)
 
   module _ (x : ℕ) (k p : Bool) (y : Ok x ≡ reading (shown s) w) (m : ◌≡◌ {A = Result (Bool × Bool) Fault} (Ok (k, p)) (marks_answer t (line_of w))) where
     cached : k ≡ s.facts.cacheable (line_of w)
@@ -175,11 +175,11 @@ module _ (s t : State) (d : Dir) (f : Option Fill) (w : ℕ) (none : f ≡ None)
     shut : p ≡ s.protected (line_of w)
     shut = (marks_ok t (line_of w) k p m).1 ∙ ap (λ (v : Shown). v.protected (line_of w)) (shown_kept s t a)
 
-    pub miss-pass : k ≡ false → ◌≡◌ {A = Model} (record { dir = d; fill = f }) (begun (shown s) d w)
-    miss-pass n = still ∙ sym (begun_at (shown s) d w true false (read_ok (shown s) w x y).0 (sym cached ∙ n))
+    pub miss_pass : k ≡ false → ◌≡◌ {A = Model} (record { dir = d; fill = f }) (begun (shown s) d w)
+    miss_pass n = still ∙ sym (begun_at (shown s) d w true false (read_ok (shown s) w x y).0 (sym cached ∙ n))
 
-    pub miss-fill : k ≡ true → (n : Model) → n.dir ≡ d → n.fill ≡ Some (begun_fill d w p x) → n ≡ begun (shown s) d w
-    miss-fill n q ed ef =
+    pub miss_fill : k ≡ true → (n : Model) → n.dir ≡ d → n.fill ≡ Some (begun_fill d w p x) → n ≡ begun (shown s) d w
+    miss_fill n q ed ef =
         ap₂ (λ (e : Dir) (o : Option Fill). record { dir = e; fill = o }) ed ef
         ∙ ap₂ (λ (b : Bool) (z : ℕ). record { dir = d; fill = Some (begun_fill d w b z) }) shut (read_ok (shown s) w x y).1
         ∙ sym (begun_at (shown s) d w true true (read_ok (shown s) w x y).0 (sym cached ∙ n))

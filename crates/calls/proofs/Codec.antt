@@ -55,17 +55,17 @@ bytes_of_words (a ∷ b ∷ c ∷ d ∷ rest) small whole =
 -- The parts of a packed list word.
 
 module _ (k l w : ℕ) (hk : k < 16) (hl : l < 4) (hw : w < 8388608) where
-  kind-packed : kind_of (packed k l w) ≡ k
-  kind-packed = omega arith
+  kind_packed : kind_of (packed k l w) ≡ k
+  kind_packed = omega arith
 
-  spare-packed : bits (packed k l w) 25 3 ≡ 0
-  spare-packed = omega arith
+  spare_packed : bits (packed k l w) 25 3 ≡ 0
+  spare_packed = omega arith
 
-  lanes-packed : lanes_of (packed k l w) ≡ l
-  lanes-packed = omega arith
+  lanes_packed : lanes_of (packed k l w) ≡ l
+  lanes_packed = omega arith
 
-  target-packed : target_of (packed k l w) ≡ w
-  target-packed = omega arith
+  target_packed : target_of (packed k l w) ≡ w
+  target_packed = omega arith
 
 -- A packed list word is read back.
 
@@ -75,7 +75,7 @@ bare_back i k call hk = grind (arith, nat_tests)
 target_back : (i k w : ℕ) → k < 16 → w < 8388608 → target_in i (packed k 0 w) ≡ Ok w
 target_back i k w hk hw =
     let e : bits (packed k 0 w) 23 5 ≡ 0 = omega arith in
-    rw (e, target-packed k 0 w hk (omega arith) hw)
+    rw (e, target_packed k 0 w hk (omega arith) hw)
 
 value_back : (i v : ℕ) → v < 65536 → value_in i (Some (packed 15 0 v)) ≡ Ok v
 value_back i v hv =
@@ -86,37 +86,37 @@ value_back i v hv =
 
 store_back : (i k : ℕ) (s : StoreRecord) → k < 16 → CargoFits (Store s) → store_in i (packed k s.lanes s.word) (Some (packed 15 0 s.value)) ≡ Ok s
 store_back i k s hk (hw, hl, hv) =
-    rw (spare-packed k s.lanes s.word hk hl hw, value_back i s.value hv, lanes-packed k s.lanes s.word hk hl hw, target-packed k s.lanes s.word hk hl hw)
+    rw (spare_packed k s.lanes s.word hk hl hw, value_back i s.value hv, lanes_packed k s.lanes s.word hk hl hw, target_packed k s.lanes s.word hk hl hw)
 
 -- The words of a call that fits give back the call, whatever follows them.
 
 module _ (i k : ℕ) (hk : k < 16) (next : Option ℕ) where
-  bare-front : (call : Call) → ((x : ℕ) → call_of_kind k i x next ≡ bare_call i x call) → call_in i (packed k 0 0) next ≡ Ok call
-  bare-front call row = rw (kind-packed k 0 0 hk (omega arith) (omega arith)) (row (packed k 0 0) ∙ bare_back i k call hk)
+  bare_front : (call : Call) → ((x : ℕ) → call_of_kind k i x next ≡ bare_call i x call) → call_in i (packed k 0 0) next ≡ Ok call
+  bare_front call row = rw (kind_packed k 0 0 hk (omega arith) (omega arith)) (row (packed k 0 0) ∙ bare_back i k call hk)
 
-  target-front : (f : ℕ → Call) (w : ℕ) → w < 8388608 → ((x : ℕ) → call_of_kind k i x next ≡ map_ok f (target_in i x)) → call_in i (packed k 0 w) next ≡ Ok (f w)
-  target-front f w hw row = rw (kind-packed k 0 w hk (omega arith) hw) (row (packed k 0 w) ∙ ap (map_ok f) (target_back i k w hk hw))
+  target_front : (f : ℕ → Call) (w : ℕ) → w < 8388608 → ((x : ℕ) → call_of_kind k i x next ≡ map_ok f (target_in i x)) → call_in i (packed k 0 w) next ≡ Ok (f w)
+  target_front f w hw row = rw (kind_packed k 0 w hk (omega arith) hw) (row (packed k 0 w) ∙ ap (map_ok f) (target_back i k w hk hw))
 
 store_front : (i k : ℕ) (f : StoreRecord → Call) (s : StoreRecord) → k < 16 → CargoFits (Store s) →
     ((x : ℕ) (next : Option ℕ) → call_of_kind k i x next ≡ map_ok f (store_in i x next)) → call_in i (packed k s.lanes s.word) (Some (packed 15 0 s.value)) ≡ Ok (f s)
 store_front i k f s hk (hw, hl, hv) row =
-    rw (kind-packed k s.lanes s.word hk hl hw) (row (packed k s.lanes s.word) (Some (packed 15 0 s.value)) ∙ ap (map_ok f) (store_back i k s hk (hw, hl, hv)))
+    rw (kind_packed k s.lanes s.word hk hl hw) (row (packed k s.lanes s.word) (Some (packed 15 0 s.value)) ∙ ap (map_ok f) (store_back i k s hk (hw, hl, hv)))
 
 call_front : (i : ℕ) (call : Call) (ws : List ℕ) → CargoFits (cargo_of call) → front i (call_words call ++ ws) ≡ Ok (Some call)
-call_front i (Read w) ws h = ap (map_ok Some) (target-front i 0 (lit< tt) (first_of ws) Read w h (λ x. refl))
+call_front i (Read w) ws h = ap (map_ok Some) (target_front i 0 (lit< tt) (first_of ws) Read w h (λ x. refl))
 call_front i (Write s) ws h = ap (map_ok Some) (store_front i 1 Write s (lit< tt) h (λ x next. refl))
 call_front i (Unposted s) ws h = ap (map_ok Some) (store_front i 2 Unposted s (lit< tt) h (λ x next. refl))
-call_front i Advance ws h = ap (map_ok Some) (bare-front i 3 (lit< tt) (first_of ws) Advance (λ x. refl))
-call_front i Lock ws h = ap (map_ok Some) (bare-front i 4 (lit< tt) (first_of ws) Lock (λ x. refl))
-call_front i (LockedRead w) ws h = ap (map_ok Some) (target-front i 5 (lit< tt) (first_of ws) LockedRead w h (λ x. refl))
+call_front i Advance ws h = ap (map_ok Some) (bare_front i 3 (lit< tt) (first_of ws) Advance (λ x. refl))
+call_front i Lock ws h = ap (map_ok Some) (bare_front i 4 (lit< tt) (first_of ws) Lock (λ x. refl))
+call_front i (LockedRead w) ws h = ap (map_ok Some) (target_front i 5 (lit< tt) (first_of ws) LockedRead w h (λ x. refl))
 call_front i (LockedWrite s) ws h = ap (map_ok Some) (store_front i 6 LockedWrite s (lit< tt) h (λ x next. refl))
-call_front i Unlock ws h = ap (map_ok Some) (bare-front i 7 (lit< tt) (first_of ws) Unlock (λ x. refl))
-call_front i Ask ws h = ap (map_ok Some) (bare-front i 8 (lit< tt) (first_of ws) Ask (λ x. refl))
-call_front i (MasterRead w) ws h = ap (map_ok Some) (target-front i 9 (lit< tt) (first_of ws) MasterRead w h (λ x. refl))
+call_front i Unlock ws h = ap (map_ok Some) (bare_front i 7 (lit< tt) (first_of ws) Unlock (λ x. refl))
+call_front i Ask ws h = ap (map_ok Some) (bare_front i 8 (lit< tt) (first_of ws) Ask (λ x. refl))
+call_front i (MasterRead w) ws h = ap (map_ok Some) (target_front i 9 (lit< tt) (first_of ws) MasterRead w h (λ x. refl))
 call_front i (MasterWrite s) ws h = ap (map_ok Some) (store_front i 10 MasterWrite s (lit< tt) h (λ x next. refl))
-call_front i Give ws h = ap (map_ok Some) (bare-front i 11 (lit< tt) (first_of ws) Give (λ x. refl))
-call_front i (Snoop w) ws h = ap (map_ok Some) (target-front i 12 (lit< tt) (first_of ws) Snoop w h (λ x. refl))
-call_front i Flush ws h = ap (map_ok Some) (bare-front i 13 (lit< tt) (first_of ws) Flush (λ x. refl))
+call_front i Give ws h = ap (map_ok Some) (bare_front i 11 (lit< tt) (first_of ws) Give (λ x. refl))
+call_front i (Snoop w) ws h = ap (map_ok Some) (target_front i 12 (lit< tt) (first_of ws) Snoop w h (λ x. refl))
+call_front i Flush ws h = ap (map_ok Some) (bare_front i 13 (lit< tt) (first_of ws) Flush (λ x. refl))
 
 -- past a call's words
 past_call : (k : ℕ) (cargo : Cargo) (ws : List ℕ) → drop (size_with cargo) (words_with k cargo ++ ws) ≡ ws
@@ -214,8 +214,8 @@ store_ok i w (d ∷ ds) s h e =
     ((omega arith, omega arith, omega arith), ap (λ x. x ∷ d ∷ ds) head ∙ ap (λ x. packed (kind_of w) (lanes_of w) (target_of w) ∷ x ∷ ds) tail)
 
 module _ (i w : ℕ) (ws : List ℕ) (call : Call) (h : Words (w ∷ ws)) where
-  bare-row : (k : ℕ) (made : Call) → (MadeOf k Nothing w ws → Made made w ws) → kind_of w ≡ k → bare_call i w made ≡ Ok call → Made call w ws
-  bare-row k made is e r =
+  bare_row : (k : ℕ) (made : Call) → (MadeOf k Nothing w ws → Made made w ws) → kind_of w ≡ k → bare_call i w made ≡ Ok call → Made call w ws
+  bare_row k made is e r =
       let b = bare_ok i w made call (h 0) r in
       subst (λ c. Made c w ws) (sym b.0) (is (tt, ap (λ x. x ∷ ws) (b.1 ∙ ap (λ n. packed n 0 0) e)))
 
@@ -225,8 +225,8 @@ module _ (i w : ℕ) (ws : List ℕ) (call : Call) (h : Words (w ∷ ws)) where
       let b = target_ok i w m.0 (h 0) m.1 in
       subst (λ c. Made c w ws) (sym m.2) (is m.0 (b.0, ap (λ x. x ∷ ws) (b.1 ∙ ap (λ n. packed n 0 m.0) e)))
 
-  store-row : (k : ℕ) (f : StoreRecord → Call) → ((s : StoreRecord) → MadeOf k (Store s) w ws → Made (f s) w ws) → kind_of w ≡ k → map_ok f (store_in i w (first_of ws)) ≡ Ok call → Made call w ws
-  store-row k f is e r =
+  store_row : (k : ℕ) (f : StoreRecord → Call) → ((s : StoreRecord) → MadeOf k (Store s) w ws → Made (f s) w ws) → kind_of w ≡ k → map_ok f (store_in i w (first_of ws)) ≡ Ok call → Made call w ws
+  store_row k f is e r =
       let m = map_ok_lem f (store_in i w (first_of ws)) call r in
       subst (λ c. Made c w ws) (sym m.2) (is m.0 (subst (λ n. MadeOf n (Store m.0) w ws) e (store_ok i w ws m.0 h m.1)))
 
@@ -236,19 +236,19 @@ module _ (i w : ℕ) (ws : List ℕ) (call : Call) (h : Words (w ∷ ws)) where
   call_ok : call_in i w (first_of ws) ≡ Ok call → Made call w ws
   call_ok =
       row 0 _ _ (target_row 0 Read (λ t m. m))
-      (row 1 _ _ (store-row 1 Write (λ s m. m))
-      (row 2 _ _ (store-row 2 Unposted (λ s m. m))
-      (row 3 _ _ (bare-row 3 Advance (λ m. m))
-      (row 4 _ _ (bare-row 4 Lock (λ m. m))
+      (row 1 _ _ (store_row 1 Write (λ s m. m))
+      (row 2 _ _ (store_row 2 Unposted (λ s m. m))
+      (row 3 _ _ (bare_row 3 Advance (λ m. m))
+      (row 4 _ _ (bare_row 4 Lock (λ m. m))
       (row 5 _ _ (target_row 5 LockedRead (λ t m. m))
-      (row 6 _ _ (store-row 6 LockedWrite (λ s m. m))
-      (row 7 _ _ (bare-row 7 Unlock (λ m. m))
-      (row 8 _ _ (bare-row 8 Ask (λ m. m))
+      (row 6 _ _ (store_row 6 LockedWrite (λ s m. m))
+      (row 7 _ _ (bare_row 7 Unlock (λ m. m))
+      (row 8 _ _ (bare_row 8 Ask (λ m. m))
       (row 9 _ _ (target_row 9 MasterRead (λ t m. m))
-      (row 10 _ _ (store-row 10 MasterWrite (λ s m. m))
-      (row 11 _ _ (bare-row 11 Give (λ m. m))
+      (row 10 _ _ (store_row 10 MasterWrite (λ s m. m))
+      (row 11 _ _ (bare_row 11 Give (λ m. m))
       (row 12 _ _ (target_row 12 Snoop (λ t m. m))
-      (row 13 _ _ (bare-row 13 Flush (λ m. m))
+      (row 13 _ _ (bare_row 13 Flush (λ m. m))
       (λ (bad : Err (malformed i) ≡ Ok call). let z : ◌≡◌ {A = ℕ} 0 1 = cc in absurd (omega arith)))))))))))))))
 
 -- The calls of words that are read are those that the words were written for.

@@ -146,8 +146,8 @@ module _ (m : Result (List Call) Fault) (bytes ys : List ℕ) (i : ℕ) (calls :
   pub turn_end : (o : Option Call) → Ok o ≡ next_in i ys → o ≡ None → m ≡ Ok calls
   turn_end o e is = turn (Ok None) (ap Ok (sym is) ∙ e) ∙ ap Ok (append-nil calls)
 
-  pub turn-stop : (f : Fault) → Err f ≡ next_in i ys → m ≡ Err f
-  turn-stop f e = turn (Err f) e
+  pub turn_stop : (f : Fault) → Err f ≡ next_in i ys → m ≡ Err f
+  turn_stop f e = turn (Err f) e
 
 -- a call lies within the list, so that a reader comes to its end
 some_within : (l : Result (Unit {0}) Fault) (r : Result (Option Call) Fault) (call : Call) → Ok (Some call) ≡ then_ok l r → r ≡ Ok None → ⊥

@@ -24,52 +24,52 @@ use Rattle.book.specs.Promise.{CallsMade, none_made, one_more, NeverAnOldDigit}
 use Rattle.card.specs.Stages.{Pile, buffer_state, pile_state, PileDoes, Fresh, Reached, RunOnTheStages}
 
 module _ {P : Type 0} (state : P → State) (does : P → Step → P → Type 0) where
-  same-reached : (p q : P) → q ≡ p → Reached does p q
-  same-reached p q e = subst (λ (x : P). Reached does p x) (sym e) (record { calls = []; chain = done })
+  same_reached : (p q : P) → q ≡ p → Reached does p q
+  same_reached p q e = subst (λ (x : P). Reached does p x) (sym e) (record { calls = []; chain = done })
 
-  both-reached : (p q r : P) → Reached does p q → Reached does q r → Reached does p r
-  both-reached p q r a b = record { calls = a.calls ++ b.calls; chain = chain_append a.chain b.chain }
+  both_reached : (p q r : P) → Reached does p q → Reached does q r → Reached does p r
+  both_reached p q r a b = record { calls = a.calls ++ b.calls; chain = chain_append a.chain b.chain }
 
-  drains-reached : (p q : P) → Drains state does p q → Reached does p q
-  drains-reached p _ (empty e) = record { calls = []; chain = done }
-  drains-reached p _ (more {q = m} {r = q} h d rest) =
-      let t = drains-reached m q rest in record { calls = advances ∷ t.calls; chain = then d t.chain }
+  drains_reached : (p q : P) → Drains state does p q → Reached does p q
+  drains_reached p _ (empty e) = record { calls = []; chain = done }
+  drains_reached p _ (more {q = m} {r = q} h d rest) =
+      let t = drains_reached m q rest in record { calls = advances ∷ t.calls; chain = then d t.chain }
 
-  wrote-reached : (w : Write) (p m q : P) (r : Result (Unit {0}) Fault) → does p (writes w r) m → ByAnswer r (Drains state does m q) (q ≡ m) → Reached does p q
-  wrote-reached w p m q (Ok x) h d = both-reached p m q (record { calls = writes w (Ok x) ∷ []; chain = then h done }) (drains-reached m q d)
-  wrote-reached w p m q (Err e) h d = both-reached p m q (record { calls = writes w (Err e) ∷ []; chain = then h done }) (same-reached m q d)
+  wrote_reached : (w : Write) (p m q : P) (r : Result (Unit {0}) Fault) → does p (writes w r) m → ByAnswer r (Drains state does m q) (q ≡ m) → Reached does p q
+  wrote_reached w p m q (Ok x) h d = both_reached p m q (record { calls = writes w (Ok x) ∷ []; chain = then h done }) (drains_reached m q d)
+  wrote_reached w p m q (Err e) h d = both_reached p m q (record { calls = writes w (Err e) ∷ []; chain = then h done }) (same_reached m q d)
 
-  through-reached : (w : Write) (p q : P) → Through state does w p q → Reached does p q
-  through-reached w p q t = wrote-reached w p t.between q (write_answer (state p) w) t.wrote t.drains
+  through_reached : (w : Write) (p q : P) → Through state does w p q → Reached does p q
+  through_reached w p q t = wrote_reached w p t.between q (write_answer (state p) w) t.wrote t.drains
 
-  made-reached : (c : Call) (p q : P) → Makes state does c p q → Reached does p q
-  made-reached (Read w) p q h = record { calls = _; chain = h }
-  made-reached (Post s) p q h = record { calls = _; chain = h }
-  made-reached (Unposted s) p q h = through-reached (write_of s) p q h
-  made-reached Advance p q h = record { calls = _; chain = h }
-  made-reached Lock p q h = drains-reached p q h
-  made-reached (LockedRead w) p q h = same-reached p q h
-  made-reached (LockedWrite s) p q h = through-reached (write_of s) p q h
-  made-reached Unlock p q h = same-reached p q h
-  made-reached Ask p q h = same-reached p q h
-  made-reached (MasterRead w) p q h = same-reached p q h
-  made-reached (MasterWrite s) p q h = record { calls = _; chain = h }
-  made-reached Give p q h = same-reached p q h
-  made-reached (Snoop w) p q h = record { calls = _; chain = h }
-  made-reached Flush p q h = record { calls = _; chain = h }
+  made_reached : (c : Call) (p q : P) → Makes state does c p q → Reached does p q
+  made_reached (Read w) p q h = record { calls = _; chain = h }
+  made_reached (Post s) p q h = record { calls = _; chain = h }
+  made_reached (Unposted s) p q h = through_reached (write_of s) p q h
+  made_reached Advance p q h = record { calls = _; chain = h }
+  made_reached Lock p q h = drains_reached p q h
+  made_reached (LockedRead w) p q h = same_reached p q h
+  made_reached (LockedWrite s) p q h = through_reached (write_of s) p q h
+  made_reached Unlock p q h = same_reached p q h
+  made_reached Ask p q h = same_reached p q h
+  made_reached (MasterRead w) p q h = same_reached p q h
+  made_reached (MasterWrite s) p q h = record { calls = _; chain = h }
+  made_reached Give p q h = same_reached p q h
+  made_reached (Snoop w) p q h = record { calls = _; chain = h }
+  made_reached Flush p q h = record { calls = _; chain = h }
 
-  called-reached : (o : Option Refusal) (c : Call) (p q : P) → Reaches o (Makes state does c p q) (q ≡ p) → Reached does p q
-  called-reached None c p q h = made-reached c p q h
-  called-reached (Some r) c p q h = same-reached p q h
+  called_reached : (o : Option Refusal) (c : Call) (p q : P) → Reaches o (Makes state does c p q) (q ≡ p) → Reached does p q
+  called_reached None c p q h = made_reached c p q h
+  called_reached (Some r) c p q h = same_reached p q h
 
-  calls-reached : (m : Mode) (p : P) (cs : List Call) (rs : List (Result Answer Fault)) (ks : List ℕ) (n : Mode) (q : P)
+  calls_reached : (m : Mode) (p : P) (cs : List Call) (rs : List (Result Answer Fault)) (ks : List ℕ) (n : Mode) (q : P)
       → CallsMade state does m p cs rs ks n q → Reached does p q
-  calls-reached m p _ _ _ _ _ none_made = record { calls = []; chain = done }
-  calls-reached m p _ _ _ _ _ (one_more {n = n} {o = o} {q = q} {u = u} {c = c} {r = r} {cs = cs} {rs = rs} {ks = ks} t h) =
-      both-reached p q u (calls-reached m p cs rs ks n q t) (called-reached (stop n c) c q u h.made)
+  calls_reached m p _ _ _ _ _ none_made = record { calls = []; chain = done }
+  calls_reached m p _ _ _ _ _ (one_more {n = n} {o = o} {q = q} {u = u} {c = c} {r = r} {cs = cs} {rs = rs} {ks = ks} t h) =
+      both_reached p q u (calls_reached m p cs rs ks n q t) (called_reached (stop n c) c q u h.made)
 
-  run-reached : (p : P) (cs : List Call) (rs : List (Result Answer Fault)) (m : Mode) (q : P) → NeverAnOldDigit state does p cs rs m q → Reached does p q
-  run-reached p cs rs m q h = both-reached p h.made q (drains-reached p h.made h.drains) (calls-reached _ _ _ _ _ _ _ h.calls_made)
+  run_reached : (p : P) (cs : List Call) (rs : List (Result Answer Fault)) (m : Mode) (q : P) → NeverAnOldDigit state does p cs rs m q → Reached does p q
+  run_reached p cs rs m q h = both_reached p h.made q (drains_reached p h.made h.drains) (calls_reached _ _ _ _ _ _ _ h.calls_made)
 
 -- Stages put on a memory one after another, and taken off it again.
 pub put_on : {P : Type 0} (memory : P) (b : WriteBuffer P) (c : Pile P) → b.below ≡ memory → queued b.queue ≡ [] → c.below ≡ b → tables_of c ≡ cleared → Fresh memory c
@@ -87,7 +87,7 @@ pub on_the_stages : {P : Type 0} (state : P → State) (does : P → Step → P 
     → NeverAnOldDigit (pile_state state) (PileDoes state does) made cs rs mode pile → waiting ≡ waiting_answer (pile_state state pile)
     → RunOnTheStages state does memory cs rs waiting left
 on_the_stages state does memory left cs rs waiting made pile mode fresh handed lost kept promise counted =
-    let top = run-reached (pile_state state) (PileDoes state does) made cs rs mode pile promise in
+    let top = run_reached (pile_state state) (PileDoes state does) made cs rs mode pile promise in
     let buffer = kept made pile top.calls top.chain in
     let bottom = lost made.below pile.below buffer.calls buffer.chain in
     record {

@@ -129,11 +129,11 @@ chain_kept b _ _ (then {q = m} {r = c} {d = d} {ds = ds} h rest) = both_differ _
 
 -- sizes that are fit, and what they say of the bank
 fit_lines_lem : (n : ℕ) (rest : Result ℕ Fault) (w : ℕ) → then_ok (size_of_lines n) rest ≡ Ok w → words_of_lines n ≡ n * 8
-fit_lines_lem n rest w e = by-test (fit_lines n) e
+fit_lines_lem n rest w e = by_test (fit_lines n) e
   where
-    by-test : (t : Bool) → then_ok (cond t (Ok (n * 8)) (Err unfit)) rest ≡ Ok w → cond t (n * 8) 0 ≡ n * 8
-    by-test true h = refl
-    by-test false h = let z : ◌≡◌ {A = ℕ} 0 1 = cc in absurd (omega arith)
+    by_test : (t : Bool) → then_ok (cond t (Ok (n * 8)) (Err unfit)) rest ≡ Ok w → cond t (n * 8) 0 ≡ n * 8
+    by_test true h = refl
+    by_test false h = let z : ◌≡◌ {A = ℕ} 0 1 = cc in absurd (omega arith)
 
 ran_fits : (read : Result (List Call) Fault) (size : Result ℕ Fault) (cs : List Call) → unless_unfit read size ≡ Ok cs → (w : ℕ) × (size ≡ Ok w)
 ran_fits (Ok ds) (Ok w) cs e = (w, refl)
@@ -160,8 +160,8 @@ module _ (before after : List Line) (image : List ℕ) (memory left : CardMemory
       ∙ sym (ap (λ t. cond t ((memory_of left.low.lines.now).word a) ((eprom_state_of left.high).settled.word (a - words_of_lines (length left.low.lines.now)))) here)
       ∙ sym (ap (λ (p : CardMemory). (memory_state p).settled.word a) run.handed)
 
-  card-keeps : (list : Result (List Call) Fault) → unless_unfit list (card_size (length before) (length image)) ≡ Ok cs → CardKeepsItsPromise before image cs rs waiting after
-  card-keeps list e =
+  card_keeps : (list : Result (List Call) Fault) → unless_unfit list (card_size (length before) (length image)) ≡ Ok cs → CardKeepsItsPromise before image cs rs waiting after
+  card_keeps list e =
       let size = ran_fits list (card_size (length before) (length image)) cs e in
       record {
         memory = memory;
@@ -178,4 +178,4 @@ pub promise_kept : (before after : List Line) (image : List ℕ) (memory left : 
     → RunOnTheStages memory_state MemoryDoes memory ds rs waiting left → ds ≡ cs → unless_unfit list (card_size (length before) (length image)) ≡ Ok cs
     → CardKeepsItsPromise before image cs rs waiting after
 promise_kept before after image memory left cs ds rs waiting list low high handed run same e =
-    card-keeps before after image memory left cs rs waiting low high handed (subst (λ xs. RunOnTheStages memory_state MemoryDoes memory xs rs waiting left) same run) list e
+    card_keeps before after image memory left cs rs waiting low high handed (subst (λ xs. RunOnTheStages memory_state MemoryDoes memory xs rs waiting left) same run) list e

@@ -18,28 +18,28 @@ twin_sym x y e = grind (arith, nat_tests)
 
 -- a way after another, or the same, was put in its place
 module _ (d : Dir) (i : ℕ) (k : WayNumber) (w : Way) where
-  pub put-here : (j : ℕ) (l : WayNumber) → j ≡ i → index_of l ≡ index_of k → (put d i k w).way j l ≡ masked w
-  put-here j l e f = cond-true (eqb j i && same_way l k) (masked w) (d.way j l) (and_from (eqb j i) (same_way l k) (eq-eqb j i e) (eq-eqb (index_of l) (index_of k) f))
+  pub put_here : (j : ℕ) (l : WayNumber) → j ≡ i → index_of l ≡ index_of k → (put d i k w).way j l ≡ masked w
+  put_here j l e f = cond-true (eqb j i && same_way l k) (masked w) (d.way j l) (and_from (eqb j i) (same_way l k) (eq-eqb j i e) (eq-eqb (index_of l) (index_of k) f))
 
-  pub put-other-set : (j : ℕ) (l : WayNumber) → j ≢ i → (put d i k w).way j l ≡ d.way j l
-  put-other-set j l n = cond-false (eqb j i && same_way l k) (masked w) (d.way j l) (and_left (eqb j i) (same_way l k) (ne_eqb j i n))
+  pub put_other_set : (j : ℕ) (l : WayNumber) → j ≢ i → (put d i k w).way j l ≡ d.way j l
+  put_other_set j l n = cond-false (eqb j i && same_way l k) (masked w) (d.way j l) (and_left (eqb j i) (same_way l k) (ne_eqb j i n))
 
-  pub put-other-way : (j : ℕ) (l : WayNumber) → (index_of l ≡ index_of k → ⊥) → (put d i k w).way j l ≡ d.way j l
-  put-other-way j l n = cond-false (eqb j i && same_way l k) (masked w) (d.way j l) (and_right (eqb j i) (same_way l k) (ne_eqb (index_of l) (index_of k) n))
+  pub put_other_way : (j : ℕ) (l : WayNumber) → (index_of l ≡ index_of k → ⊥) → (put d i k w).way j l ≡ d.way j l
+  put_other_way j l n = cond-false (eqb j i && same_way l k) (masked w) (d.way j l) (and_right (eqb j i) (same_way l k) (ne_eqb (index_of l) (index_of k) n))
 
   -- the way that is put there has no twin among the others of its set
-  pub apart-put : TagsAreApart d → ((l : WayNumber) → (index_of l ≡ index_of k → ⊥) → twin_ways (masked w) (d.way i l) ≡ false) → TagsAreApart (put d i k w)
-  apart-put a f n j l =
+  pub apart_put : TagsAreApart d → ((l : WayNumber) → (index_of l ≡ index_of k → ⊥) → twin_ways (masked w) (d.way i l) ≡ false) → TagsAreApart (put d i k w)
+  apart_put a f n j l =
       elim (cases_eq n i) [
-        | inr other ↦ ap₂ (λ (x y : Way). not (same_way j l) && twin_ways x y) (put-other-set n j other) (put-other-set n l other) ∙ a n j l
+        | inr other ↦ ap₂ (λ (x y : Way). not (same_way j l) && twin_ways x y) (put_other_set n j other) (put_other_set n l other) ∙ a n j l
         | inl e ↦ elim (cases_eq (index_of j) (index_of k)) [
           | inl jk ↦ elim (cases_eq (index_of l) (index_of k)) [
             | inl lk ↦ and_left (not (same_way j l)) _ (not_from_true (same_way j l) (eq-eqb (index_of j) (index_of l) (jk ∙ sym lk)))
-            | inr ln ↦ and_right (not (same_way j l)) _ (ap₂ twin_ways (put-here n j e jk) (put-other-way n l ln) ∙ ap (λ (m : ℕ). twin_ways (masked w) (d.way m l)) e ∙ f l ln)
+            | inr ln ↦ and_right (not (same_way j l)) _ (ap₂ twin_ways (put_here n j e jk) (put_other_way n l ln) ∙ ap (λ (m : ℕ). twin_ways (masked w) (d.way m l)) e ∙ f l ln)
           ]
           | inr jn ↦ elim (cases_eq (index_of l) (index_of k)) [
-            | inl lk ↦ and_right (not (same_way j l)) _ (ap₂ twin_ways (put-other-way n j jn) (put-here n l e lk) ∙ twin_sym (masked w) (d.way n j) (ap (λ (m : ℕ). twin_ways (masked w) (d.way m j)) e ∙ f j jn))
-            | inr ln ↦ ap₂ (λ (x y : Way). not (same_way j l) && twin_ways x y) (put-other-way n j jn) (put-other-way n l ln) ∙ a n j l
+            | inl lk ↦ and_right (not (same_way j l)) _ (ap₂ twin_ways (put_other_way n j jn) (put_here n l e lk) ∙ twin_sym (masked w) (d.way n j) (ap (λ (m : ℕ). twin_ways (masked w) (d.way m j)) e ∙ f j jn))
+            | inr ln ↦ ap₂ (λ (x y : Way). not (same_way j l) && twin_ways x y) (put_other_way n j jn) (put_other_way n l ln) ∙ a n j l
           ]
         ]
       ]
@@ -97,22 +97,22 @@ apart_emptied i j k = and_right (not (same_way j k)) _ refl
 
 pub apart_installed : (d : Dir) (line : ℕ) (k : WayNumber) (protect : Bool) (words : List ℕ) → TagsAreApart d → found d line ≡ None → TagsAreApart (installed d line k protect words)
 apart_installed d line k protect words a e =
-    apart-put d (set_of line) k (filled_way (tag_of line) protect words) a
+    apart_put d (set_of line) k (filled_way (tag_of line) protect words) a
     (λ l _. let h = absent d line e l in grind (arith, nat_tests))
 
 pub apart_dropped : (d : Dir) (line : ℕ) (k : WayNumber) → TagsAreApart d → TagsAreApart (put d (set_of line) k empty_way)
-apart_dropped d line k a = apart-put d (set_of line) k empty_way a (λ l _. refl)
+apart_dropped d line k a = apart_put d (set_of line) k empty_way a (λ l _. refl)
 
 twin_worded : (x y : Way) (place value : ℕ) → twin_ways x y ≡ false → twin_ways (masked (worded_way x place value)) y ≡ false
-twin_worded x y place value = by-valid x.valid x.protect x.tag x.words
+twin_worded x y place value = by_valid x.valid x.protect x.tag x.words
   where
-    by-valid : (v p : Bool) (t : ℕ) (ws : List ℕ) → twin_ways (record { valid = v; protect = p; tag = t; words = ws }) y ≡ false → twin_ways (masked (worded_way (record { valid = v; protect = p; tag = t; words = ws }) place value)) y ≡ false
-    by-valid true p t ws e = e
-    by-valid false p t ws e = refl
+    by_valid : (v p : Bool) (t : ℕ) (ws : List ℕ) → twin_ways (record { valid = v; protect = p; tag = t; words = ws }) y ≡ false → twin_ways (masked (worded_way (record { valid = v; protect = p; tag = t; words = ws }) place value)) y ≡ false
+    by_valid true p t ws e = e
+    by_valid false p t ws e = refl
 
 pub apart_changed : (d : Dir) (word : ℕ) (k : WayNumber) (value : ℕ) → TagsAreApart d → TagsAreApart (changed d word k value)
 apart_changed d word k value a =
-    apart-put d (set_of (line_of word)) k (worded_way (d.way (set_of (line_of word)) k) (place_of word) value) a
+    apart_put d (set_of (line_of word)) k (worded_way (d.way (set_of (line_of word)) k) (place_of word) value) a
     (λ l n. twin_worded (d.way (set_of (line_of word)) k) (d.way (set_of (line_of word)) l) (place_of word) value
     (sym (ap (λ (b : Bool). not b && twin_ways (d.way (set_of (line_of word)) k) (d.way (set_of (line_of word)) l)) (ne_eqb (index_of k) (index_of l) (λ e. n (sym e)))) ∙ a (set_of (line_of word)) k l))
 
@@ -126,14 +126,14 @@ module _ (d : Dir) (line : ℕ) (k : WayNumber) (protect : Bool) (words : List �
   unmoved : (other : ℕ) (j : WayNumber) → (set_of other ≡ set_of line → j ≢ k) → (put d (set_of line) k (filled_way (tag_of line) protect words)).way (set_of other) j ≡ d.way (set_of other) j
   unmoved other j n =
       elim (cases_eq (set_of other) (set_of line)) [
-        | inl same ↦ put-other-way d (set_of line) k (filled_way (tag_of line) protect words) (set_of other) j (λ f. n same (index_injective j k f))
-        | inr away ↦ put-other-set d (set_of line) k (filled_way (tag_of line) protect words) (set_of other) j away
+        | inl same ↦ put_other_way d (set_of line) k (filled_way (tag_of line) protect words) (set_of other) j (λ f. n same (index_injective j k f))
+        | inr away ↦ put_other_set d (set_of line) k (filled_way (tag_of line) protect words) (set_of other) j away
       ]
 
-  pub install-keeps : InstallKeepsOtherLines d (installed d line k protect words) line k
-  install-keeps = record {
+  pub install_keeps : InstallKeepsOtherLines d (installed d line k protect words) line k
+  install_keeps = record {
     new = finds (installed d line k protect words) (apart_installed d line k protect words a e) line k
-        (ap (has_tag (tag_of line)) (put-here d (set_of line) k (filled_way (tag_of line) protect words) (set_of line) k refl refl) ∙ eq-eqb (tag_of line) (tag_of line) refl);
+        (ap (has_tag (tag_of line)) (put_here d (set_of line) k (filled_way (tag_of line) protect words) (set_of line) k refl refl) ∙ eq-eqb (tag_of line) (tag_of line) refl);
     others = λ other j f n. finds (installed d line k protect words) (apart_installed d line k protect words a e) other j
         (ap (has_tag (tag_of other)) (unmoved other j n) ∙ held d other j f);
   }
@@ -149,54 +149,54 @@ other_tag d line other k h n e =
 
 module _ (d : Dir) (line : ℕ) (a : TagsAreApart d) where
   module _ (k : WayNumber) (h : holds d line k ≡ true) where
-    gone-way : (j : WayNumber) → holds (put d (set_of line) k empty_way) line j ≡ false
-    gone-way j =
+    gone_way : (j : WayNumber) → holds (put d (set_of line) k empty_way) line j ≡ false
+    gone_way j =
         elim (cases_eq (index_of j) (index_of k)) [
-          | inl e ↦ ap (has_tag (tag_of line)) (put-here d (set_of line) k empty_way (set_of line) j refl e)
-          | inr n ↦ ap (has_tag (tag_of line)) (put-other-way d (set_of line) k empty_way (set_of line) j n) ∙ not-two j n
+          | inl e ↦ ap (has_tag (tag_of line)) (put_here d (set_of line) k empty_way (set_of line) j refl e)
+          | inr n ↦ ap (has_tag (tag_of line)) (put_other_way d (set_of line) k empty_way (set_of line) j n) ∙ not_two j n
         ]
       where
-        not-two : (j : WayNumber) → (index_of j ≡ index_of k → ⊥) → holds d line j ≡ false
-        not-two j n = elim (cases_Bool (holds d line j)) [ inl y ↦ absurd (n (ap index_of (one d a line j k y h))) | inr f ↦ f ]
+        not_two : (j : WayNumber) → (index_of j ≡ index_of k → ⊥) → holds d line j ≡ false
+        not_two j n = elim (cases_Bool (holds d line j)) [ inl y ↦ absurd (n (ap index_of (one d a line j k y h))) | inr f ↦ f ]
 
     other_way : (other : ℕ) → other ≢ line → (j : WayNumber) → holds (put d (set_of line) k empty_way) other j ≡ holds d other j
     other_way other n j =
         elim (cases_eq (set_of other) (set_of line)) [
-          | inr away ↦ ap (has_tag (tag_of other)) (put-other-set d (set_of line) k empty_way (set_of other) j away)
+          | inr away ↦ ap (has_tag (tag_of other)) (put_other_set d (set_of line) k empty_way (set_of other) j away)
           | inl e ↦ elim (cases_eq (index_of j) (index_of k)) [
-            | inr jn ↦ ap (has_tag (tag_of other)) (put-other-way d (set_of line) k empty_way (set_of other) j jn)
-            | inl jk ↦ ap (has_tag (tag_of other)) (put-here d (set_of line) k empty_way (set_of other) j e jk)
+            | inr jn ↦ ap (has_tag (tag_of other)) (put_other_way d (set_of line) k empty_way (set_of other) j jn)
+            | inl jk ↦ ap (has_tag (tag_of other)) (put_here d (set_of line) k empty_way (set_of other) j e jk)
                 ∙ sym (ap (holds d other) (index_injective j k jk) ∙ other_tag d line other k h n e)
           ]
         ]
 
-    pub put-forgets : DropForgetsOneLine d (put d (set_of line) k empty_way) line
-    put-forgets = record { gone = unheld (put d (set_of line) k empty_way) line gone-way; others = λ other n. λ m. first_way (λ j. other_way other n j m) every_way }
+    pub put_forgets : DropForgetsOneLine d (put d (set_of line) k empty_way) line
+    put_forgets = record { gone = unheld (put d (set_of line) k empty_way) line gone_way; others = λ other n. λ m. first_way (λ j. other_way other n j m) every_way }
 
-  pub drop-forgets : DropForgetsOneLine d (dropped d line) line
-  drop-forgets = by_answer (found d line) refl
+  pub drop_forgets : DropForgetsOneLine d (dropped d line) line
+  drop_forgets = by_answer (found d line) refl
     where
       by_answer : (o : Option WayNumber) → found d line ≡ o → DropForgetsOneLine d (dropped_of d line o) line
       by_answer None e = record { gone = e; others = λ other n. refl }
-      by_answer (Some k) e = put-forgets k (held d line k e)
+      by_answer (Some k) e = put_forgets k (held d line k e)
 
 -- ---- the law of a change
 
 tag_worded : (x : Way) (place value tag : ℕ) → has_tag tag (masked (worded_way x place value)) ≡ has_tag tag x
-tag_worded x place value tag = by-valid x.valid x.protect x.tag x.words
+tag_worded x place value tag = by_valid x.valid x.protect x.tag x.words
   where
-    by-valid : (v p : Bool) (t : ℕ) (ws : List ℕ) → has_tag tag (masked (worded_way (record { valid = v; protect = p; tag = t; words = ws }) place value)) ≡ has_tag tag (record { valid = v; protect = p; tag = t; words = ws })
-    by-valid true p t ws = refl
-    by-valid false p t ws = refl
+    by_valid : (v p : Bool) (t : ℕ) (ws : List ℕ) → has_tag tag (masked (worded_way (record { valid = v; protect = p; tag = t; words = ws }) place value)) ≡ has_tag tag (record { valid = v; protect = p; tag = t; words = ws })
+    by_valid true p t ws = refl
+    by_valid false p t ws = refl
 
 module _ (d : Dir) (word : ℕ) (k : WayNumber) (value : ℕ) where
-  same-holds : (line : ℕ) (j : WayNumber) → holds (changed d word k value) line j ≡ holds d line j
-  same-holds line j =
+  same_holds : (line : ℕ) (j : WayNumber) → holds (changed d word k value) line j ≡ holds d line j
+  same_holds line j =
       elim (cases_eq (set_of line) (set_of (line_of word))) [
-        | inr away ↦ ap (has_tag (tag_of line)) (put-other-set d (set_of (line_of word)) k w (set_of line) j away)
+        | inr away ↦ ap (has_tag (tag_of line)) (put_other_set d (set_of (line_of word)) k w (set_of line) j away)
         | inl e ↦ elim (cases_eq (index_of j) (index_of k)) [
-          | inr jn ↦ ap (has_tag (tag_of line)) (put-other-way d (set_of (line_of word)) k w (set_of line) j jn)
-          | inl jk ↦ ap (has_tag (tag_of line)) (put-here d (set_of (line_of word)) k w (set_of line) j e jk)
+          | inr jn ↦ ap (has_tag (tag_of line)) (put_other_way d (set_of (line_of word)) k w (set_of line) j jn)
+          | inl jk ↦ ap (has_tag (tag_of line)) (put_here d (set_of (line_of word)) k w (set_of line) j e jk)
               ∙ tag_worded (d.way (set_of (line_of word)) k) (place_of word) value (tag_of line)
               ∙ sym (ap₂ (λ (i : ℕ) (l : WayNumber). has_tag (tag_of line) (d.way i l)) e (index_injective j k jk))
         ]
@@ -205,8 +205,8 @@ module _ (d : Dir) (word : ℕ) (k : WayNumber) (value : ℕ) where
       w : Way
       w = worded_way (d.way (set_of (line_of word)) k) (place_of word) value
 
-  pub change-moves-none : ChangeMovesNoLine d (changed d word k value)
-  change-moves-none line = λ n. first_way (λ j. same-holds line j n) every_way
+  pub change_moves_none : ChangeMovesNoLine d (changed d word k value)
+  change_moves_none line = λ n. first_way (λ j. same_holds line j n) every_way
 
 -- a directory has the law by its type
 pub apart_of : (d : Directory) → TagsAreApart (view d)

@@ -6,32 +6,32 @@ use Rattle.directory.specs.Touch.{index_of}
 use Rattle.directory.specs.Sets.{no_way, no_set, empty_way, filled_way, worded_way, invalid_way, way_in, touched_set, put_set, installed_set}
 use Rattle.directory.specs.Dirs.{Dir, set_of, tag_of, line_of, place_of, view_of, put, touched, installed, dropped, changed, found}
 use Rattle.directory.specs.Laws.{TagsAreApart, OnlyMarksOfOneSet, InstallKeepsOtherLines, DropForgetsOneLine, ChangeMovesNoLine}
-use Rattle.directory.proofs.Views.{view-touched, view-put, view-installed, put_worded}
-use Rattle.directory.proofs.Apart.{apart_installed, apart_dropped, apart_changed, only_marks, install-keeps, drop-forgets, change-moves-none}
+use Rattle.directory.proofs.Views.{view_touched, view_put, view_installed, put_worded}
+use Rattle.directory.proofs.Apart.{apart_installed, apart_dropped, apart_changed, only_marks, install_keeps, drop_forgets, change_moves_none}
 
 module _ (sets : List SetRecord) (i : ℕ) (k : WayNumber) (s : SetRecord) (h : i < length sets) where
   module _ (line : ℕ) (e : i ≡ set_of line) where
-    pub after-touch : s ≡ touched_set (get_or sets i no_set) k → view_of (set sets i s) ≡ touched (view_of sets) (set_of line) k
-    after-touch f =
-        ap (λ (t : SetRecord). view_of (set sets i t)) f ∙ view-touched sets i k h ∙ ap (λ (n : ℕ). touched (view_of sets) n k) e
+    pub after_touch : s ≡ touched_set (get_or sets i no_set) k → view_of (set sets i s) ≡ touched (view_of sets) (set_of line) k
+    after_touch f =
+        ap (λ (t : SetRecord). view_of (set sets i t)) f ∙ view_touched sets i k h ∙ ap (λ (n : ℕ). touched (view_of sets) n k) e
 
-    pub after-install : (tag : ℕ) (protect : Bool) (words : List ℕ) → tag ≡ tag_of line → length (get_or sets i no_set).ways ≡ 4 → s ≡ installed_set (get_or sets i no_set) k (filled_way tag protect words) → view_of (set sets i s) ≡ installed (view_of sets) line k protect words
-    after-install tag protect words et wide f =
+    pub after_install : (tag : ℕ) (protect : Bool) (words : List ℕ) → tag ≡ tag_of line → length (get_or sets i no_set).ways ≡ 4 → s ≡ installed_set (get_or sets i no_set) k (filled_way tag protect words) → view_of (set sets i s) ≡ installed (view_of sets) line k protect words
+    after_install tag protect words et wide f =
         ap (λ (t : SetRecord). view_of (set sets i t)) f
-        ∙ view-installed sets i k h (filled_way tag protect words) wide
+        ∙ view_installed sets i k h (filled_way tag protect words) wide
         ∙ ap (λ (n : ℕ). touched (put (view_of sets) n k (filled_way tag protect words)) n k) e
         ∙ ap (λ (t : ℕ). touched (put (view_of sets) (set_of line) k (filled_way t protect words)) (set_of line) k) et
 
     pub after-drop : length (get_or sets i no_set).ways ≡ 4 → s ≡ put_set (get_or sets i no_set) k (invalid_way (get_or (get_or sets i no_set).ways (index_of k) no_way)) → view_of (set sets i s) ≡ put (view_of sets) (set_of line) k empty_way
     after-drop wide f =
         ap (λ (t : SetRecord). view_of (set sets i t)) f
-        ∙ view-put sets i k h (invalid_way (get_or (get_or sets i no_set).ways (index_of k) no_way)) wide
+        ∙ view_put sets i k h (invalid_way (get_or (get_or sets i no_set).ways (index_of k) no_way)) wide
         ∙ ap (λ (n : ℕ). put (view_of sets) n k empty_way) e
 
-  pub after-change : (word place value : ℕ) → i ≡ set_of (line_of word) → place ≡ place_of word → length (get_or sets i no_set).ways ≡ 4 → s ≡ put_set (get_or sets i no_set) k (worded_way (get_or (get_or sets i no_set).ways (index_of k) no_way) place value) → view_of (set sets i s) ≡ changed (view_of sets) word k value
-  after-change word place value e ep wide f =
+  pub after_change : (word place value : ℕ) → i ≡ set_of (line_of word) → place ≡ place_of word → length (get_or sets i no_set).ways ≡ 4 → s ≡ put_set (get_or sets i no_set) k (worded_way (get_or (get_or sets i no_set).ways (index_of k) no_way) place value) → view_of (set sets i s) ≡ changed (view_of sets) word k value
+  after_change word place value e ep wide f =
       ap (λ (t : SetRecord). view_of (set sets i t)) f
-      ∙ view-put sets i k h (worded_way (get_or (get_or sets i no_set).ways (index_of k) no_way) place value) wide
+      ∙ view_put sets i k h (worded_way (get_or (get_or sets i no_set).ways (index_of k) no_way) place value) wide
       ∙ put_worded (view_of sets) i k (get_or (get_or sets i no_set).ways (index_of k) no_way) place value
       ∙ ap (λ (n : ℕ). put (view_of sets) n k (worded_way (way_in (get_or sets n no_set) k) place value)) e
       ∙ ap (λ (p : ℕ). put (view_of sets) (set_of (line_of word)) k (worded_way (way_in (get_or sets (set_of (line_of word)) no_set) k) p value)) ep
@@ -44,10 +44,10 @@ pub only_marks_as : (d e : Dir) (i : ℕ) (k : WayNumber) → e ≡ touched d i 
 only_marks_as d e i k p = subst (λ (x : Dir). OnlyMarksOfOneSet d x i) (sym p) (only_marks d i k)
 
 pub install_keeps_as : (d e : Dir) (line : ℕ) (k : WayNumber) (protect : Bool) (words : List ℕ) → TagsAreApart d → found d line ≡ None → e ≡ installed d line k protect words → InstallKeepsOtherLines d e line k
-install_keeps_as d e line k protect words a f p = subst (λ (x : Dir). InstallKeepsOtherLines d x line k) (sym p) (install-keeps d line k protect words a f)
+install_keeps_as d e line k protect words a f p = subst (λ (x : Dir). InstallKeepsOtherLines d x line k) (sym p) (install_keeps d line k protect words a f)
 
 pub drop_forgets_as : (d e : Dir) (line : ℕ) → TagsAreApart d → e ≡ dropped d line → DropForgetsOneLine d e line
-drop_forgets_as d e line a p = subst (λ (x : Dir). DropForgetsOneLine d x line) (sym p) (drop-forgets d line a)
+drop_forgets_as d e line a p = subst (λ (x : Dir). DropForgetsOneLine d x line) (sym p) (drop_forgets d line a)
 
 pub change_moves_none_as : (d e : Dir) (word : ℕ) (k : WayNumber) (value : ℕ) → e ≡ changed d word k value → ChangeMovesNoLine d e
-change_moves_none_as d e word k value p = subst (ChangeMovesNoLine d) (sym p) (change-moves-none d word k value)
+change_moves_none_as d e word k value p = subst (ChangeMovesNoLine d) (sym p) (change_moves_none d word k value)

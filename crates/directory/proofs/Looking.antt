@@ -30,8 +30,8 @@ module _ (s : SetRecord) (tag i : ℕ) (r : Way) (t : Bool) (h : i < 4) (e : r �
   pub found_here : t ≡ true → Some (get_or every_way i Zero) ≡ first_way (λ k. has_tag tag (way_in s k)) every_way
   found_here y = sym (first_step (λ k. has_tag tag (way_in s k)) every_way i h ∙ cond-true _ _ _ (test ∙ y)) ∙ inv
 
-  pub found-later : t ≡ false → first_way (λ k. has_tag tag (way_in s k)) (drop (i + 1) every_way) ≡ first_way (λ k. has_tag tag (way_in s k)) every_way
-  found-later n = sym (first_step (λ k. has_tag tag (way_in s k)) every_way i h ∙ cond-false _ _ _ (test ∙ n)) ∙ inv
+  pub found_later : t ≡ false → first_way (λ k. has_tag tag (way_in s k)) (drop (i + 1) every_way) ≡ first_way (λ k. has_tag tag (way_in s k)) every_way
+  found_later n = sym (first_step (λ k. has_tag tag (way_in s k)) every_way i h ∙ cond-false _ _ _ (test ∙ n)) ∙ inv
 
 pub found_none : (p : WayNumber → Bool) (i : ℕ) → 4 ≤ i → first_way p (drop i every_way) ≡ first_way p every_way → None ≡ first_way p every_way
 found_none p i h inv = sym (ap (first_way p) (drop_all i every_way h)) ∙ inv

@@ -79,35 +79,35 @@ module _ (b : Fill) (u : UnderWay b) where
   next : tick b.ticks (next_place b) ≡ ticks_after b.first (suc (ones b.ticks))
   next = ap (λ (t : ℕ). tick t (next_place b)) u.ordered.order
 
-  next-ones : ones (tick b.ticks (next_place b)) ≡ suc (ones b.ticks)
-  next-ones = ap ones next ∙ ones_after b.first (suc (ones b.ticks)) u.ordered.place (omega (arith, u.short))
+  next_ones : ones (tick b.ticks (next_place b)) ≡ suc (ones b.ticks)
+  next_ones = ap ones next ∙ ones_after b.first (suc (ones b.ticks)) u.ordered.place (omega (arith, u.short))
 
   pub next_small : next_place b < 8
   next_small = within b.first (ones b.ticks) u.ordered.place u.short
 
-  pub stored-count : (value : ℕ) → ones (stored b value).ticks ≡ ones b.ticks + 1
-  stored-count value = rw add-one next-ones
+  pub stored_count : (value : ℕ) → ones (stored b value).ticks ≡ ones b.ticks + 1
+  stored_count value = rw add-one next_ones
 
-  pub stored-ordered : (value : ℕ) → Ordered (stored b value)
-  stored-ordered value = record {
+  pub stored_ordered : (value : ℕ) → Ordered (stored b value)
+  stored_ordered value = record {
     low = u.ordered.low;
     place = u.ordered.place;
-    order = next ∙ ap (ticks_after b.first) (sym next-ones);
+    order = next ∙ ap (ticks_after b.first) (sym next_ones);
     sized = length-set b.words (next_place b) value ∙ u.ordered.sized;
   }
 
-  pub ticked-stored : (q : ℕ) → q < 8 → ticked (tick b.ticks (next_place b)) q ≡ (ticked b.ticks q || eqb q (next_place b))
-  ticked-stored q h =
+  pub ticked_stored : (q : ℕ) → q < 8 → ticked (tick b.ticks (next_place b)) q ≡ (ticked b.ticks q || eqb q (next_place b))
+  ticked_stored q h =
       ap (λ (t : ℕ). ticked t q) next
       ∙ ticked_more b.first (ones b.ticks) q u.ordered.place u.short h
       ∙ ap (λ (t : ℕ). ticked t q || eqb q (next_place b)) (sym u.ordered.order)
 
-  pub store-adds : (value : ℕ) → StoreAddsItsWord b (stored b value) value
-  store-adds value = record {
+  pub store_adds : (value : ℕ) → StoreAddsItsWord b (stored b value) value
+  store_adds value = record {
     new =
         cond-true (eqb b.line (line_of (next_word b)) && ticked (tick b.ticks (next_place b)) (place_of (next_word b))) _ None
         (and_from (eqb b.line (line_of (next_word b))) _ (eq-eqb b.line (line_of (next_word b)) (sym (div-mul-add b.line 8 (next_place b) next_small)))
-        (ap (ticked (tick b.ticks (next_place b))) (mod-mul-add b.line 8 (next_place b) next_small) ∙ ticked-stored (next_place b) next_small ∙ or_right (ticked b.ticks (next_place b)) _ (eq-eqb (next_place b) (next_place b) refl)))
+        (ap (ticked (tick b.ticks (next_place b))) (mod-mul-add b.line 8 (next_place b) next_small) ∙ ticked_stored (next_place b) next_small ∙ or_right (ticked b.ticks (next_place b)) _ (eq-eqb (next_place b) (next_place b) refl)))
         ∙ ap (λ (q : ℕ). Some (get_or (set b.words (next_place b) value) q 0)) (mod-mul-add b.line 8 (next_place b) next_small)
         ∙ ap Some (get_or-set_same b.words (next_place b) value 0 (omega (arith, next_small, u.ordered.sized)));
     others = other;
@@ -123,7 +123,7 @@ module _ (b : Fill) (u : UnderWay b) where
                 (let m : place_of word ≢ next_place b = λ f. n (omega arith) in
                 let h : place_of word < 8 = omega arith in
                 ap₂ (λ (t : Bool) (v : ℕ). cond (eqb b.line (line_of word) && t) (Some v) None)
-                (ticked-stored (place_of word) h ∙ or_no (ticked b.ticks (place_of word)) _ (ne_eqb (place_of word) (next_place b) m))
+                (ticked_stored (place_of word) h ∙ or_no (ticked b.ticks (place_of word)) _ (ne_eqb (place_of word) (next_place b) m))
                 (get_or-set_other b.words (next_place b) (place_of word) value 0 m))
           ]
 
@@ -142,8 +142,8 @@ module _ (b : Fill) (u : UnderWay b) (p value : ℕ) (e : p ≡ next_place b) (h
   byte : bit_or b.ticks ((1 * 2 ^ p) % 256) ≡ tick b.ticks (next_place b)
   byte = ap (λ (x : ℕ). bit_or b.ticks x) (one_shl p 8 h ∙ ap (λ (x : ℕ). 2 ^ x) e)
 
-  pub left-stored : left b p value ≡ stored b value
-  left-stored = λ n. record {
+  pub left_stored : left b p value ≡ stored b value
+  left_stored = λ n. record {
     line = b.line;
     first = b.first;
     way = b.way;
@@ -152,11 +152,11 @@ module _ (b : Fill) (u : UnderWay b) (p value : ℕ) (e : p ≡ next_place b) (h
     words = ap (λ (q : ℕ). set b.words q value) e n;
   }
 
-  pub left-ordered : Ordered (left b p value)
-  left-ordered = subst Ordered (sym left-stored) (stored-ordered b u value)
+  pub left_ordered : Ordered (left b p value)
+  left_ordered = subst Ordered (sym left_stored) (stored_ordered b u value)
 
-  pub left-count : ones (left b p value).ticks ≡ ones b.ticks + 1
-  left-count = ap (λ (x : Fill). ones x.ticks) left-stored ∙ stored-count b u value
+  pub left_count : ones (left b p value).ticks ≡ ones b.ticks + 1
+  left_count = ap (λ (x : Fill). ones x.ticks) left_stored ∙ stored_count b u value
 
-  pub left-adds : StoreAddsItsWord b (left b p value) value
-  left-adds = subst (λ (x : Fill). StoreAddsItsWord b x value) (sym left-stored) (store-adds b u value)
+  pub left_adds : StoreAddsItsWord b (left b p value) value
+  left_adds = subst (λ (x : Fill). StoreAddsItsWord b x value) (sym left_stored) (store_adds b u value)

@@ -45,8 +45,8 @@ module _ (sets : List SetRecord) (i : ℕ) (k : WayNumber) (h : i < length sets)
   here : {B : Type 0} (f : SetRecord → B) (j : ℕ) → eqb j i ≡ true → f (get_or sets i no_set) ≡ f (get_or sets j no_set)
   here f j e = ap (λ (m : ℕ). f (get_or sets m no_set)) (sym (eqb-true j i e))
 
-  ways-kept : (m : Marks) (j : ℕ) (l : WayNumber) → way_in (get_or (set sets i (record { ways = (get_or sets i no_set).ways; marks = m })) j no_set) l ≡ way_in (get_or sets j no_set) l
-  ways-kept m j l =
+  ways_kept : (m : Marks) (j : ℕ) (l : WayNumber) → way_in (get_or (set sets i (record { ways = (get_or sets i no_set).ways; marks = m })) j no_set) l ≡ way_in (get_or sets j no_set) l
+  ways_kept m j l =
       at_set (λ s. way_in s l) sets i (record { ways = (get_or sets i no_set).ways; marks = m }) h j
       ∙ kept (eqb j i) (way_in (get_or sets i no_set) l) (way_in (get_or sets j no_set) l) (here (λ s. way_in s l) j)
 
@@ -56,41 +56,41 @@ module _ (sets : List SetRecord) (i : ℕ) (k : WayNumber) (h : i < length sets)
       ∙ ap (λ (x : Way). cond (eqb j i) x (way_in (get_or sets j no_set) l)) (at_way (get_or sets i no_set).ways k l w (omega (arith, index_below k)))
       ∙ nested (eqb j i) (same_way l k) (masked w) (way_in (get_or sets j no_set) l) (way_in (get_or sets i no_set) l) (here (λ s. way_in s l) j)
 
-  marks-kept : (ws : List Way) (j : ℕ) → (get_or (set sets i (record { ways = ws; marks = (get_or sets i no_set).marks })) j no_set).marks ≡ (get_or sets j no_set).marks
-  marks-kept ws j =
+  marks_kept : (ws : List Way) (j : ℕ) → (get_or (set sets i (record { ways = ws; marks = (get_or sets i no_set).marks })) j no_set).marks ≡ (get_or sets j no_set).marks
+  marks_kept ws j =
       at_set (λ s. s.marks) sets i (record { ways = ws; marks = (get_or sets i no_set).marks }) h j
       ∙ kept (eqb j i) (get_or sets i no_set).marks (get_or sets j no_set).marks (here (λ s. s.marks) j)
 
-  marks-touched : (ws : List Way) (j : ℕ) → (get_or (set sets i (record { ways = ws; marks = touched_marks (get_or sets i no_set).marks k })) j no_set).marks ≡ cond (eqb j i) (touched_marks (get_or sets j no_set).marks k) (get_or sets j no_set).marks
-  marks-touched ws j =
+  marks_touched : (ws : List Way) (j : ℕ) → (get_or (set sets i (record { ways = ws; marks = touched_marks (get_or sets i no_set).marks k })) j no_set).marks ≡ cond (eqb j i) (touched_marks (get_or sets j no_set).marks k) (get_or sets j no_set).marks
+  marks_touched ws j =
       at_set (λ s. s.marks) sets i (record { ways = ws; marks = touched_marks (get_or sets i no_set).marks k }) h j
       ∙ chosen (eqb j i) (touched_marks (get_or sets i no_set).marks k) (touched_marks (get_or sets j no_set).marks k) (get_or sets j no_set).marks (here (λ s. touched_marks s.marks k) j)
 
-  pub view-touched : view_of (set sets i (touched_set (get_or sets i no_set) k)) ≡ touched (view_of sets) i k
-  view-touched = λ n. record {
-    way = λ j l. ways-kept (touched_marks (get_or sets i no_set).marks k) j l n;
-    marks = λ j. marks-touched (get_or sets i no_set).ways j n;
+  pub view_touched : view_of (set sets i (touched_set (get_or sets i no_set) k)) ≡ touched (view_of sets) i k
+  view_touched = λ n. record {
+    way = λ j l. ways_kept (touched_marks (get_or sets i no_set).marks k) j l n;
+    marks = λ j. marks_touched (get_or sets i no_set).ways j n;
   }
 
-  pub view-put : (w : Way) → length (get_or sets i no_set).ways ≡ 4 → view_of (set sets i (put_set (get_or sets i no_set) k w)) ≡ put (view_of sets) i k w
-  view-put w wide = λ n. record {
+  pub view_put : (w : Way) → length (get_or sets i no_set).ways ≡ 4 → view_of (set sets i (put_set (get_or sets i no_set) k w)) ≡ put (view_of sets) i k w
+  view_put w wide = λ n. record {
     way = λ j l. ways_put w (get_or sets i no_set).marks wide j l n;
-    marks = λ j. marks-kept (set (get_or sets i no_set).ways (index_of k) w) j n;
+    marks = λ j. marks_kept (set (get_or sets i no_set).ways (index_of k) w) j n;
   }
 
-  pub view-installed : (w : Way) → length (get_or sets i no_set).ways ≡ 4 → view_of (set sets i (installed_set (get_or sets i no_set) k w)) ≡ touched (put (view_of sets) i k w) i k
-  view-installed w wide = λ n. record {
+  pub view_installed : (w : Way) → length (get_or sets i no_set).ways ≡ 4 → view_of (set sets i (installed_set (get_or sets i no_set) k w)) ≡ touched (put (view_of sets) i k w) i k
+  view_installed w wide = λ n. record {
     way = λ j l. ways_put w (touched_marks (get_or sets i no_set).marks k) wide j l n;
-    marks = λ j. marks-touched (set (get_or sets i no_set).ways (index_of k) w) j n;
+    marks = λ j. marks_touched (set (get_or sets i no_set).ways (index_of k) w) j n;
   }
 
 -- a word changed in a way, seen or not
 masked_worded : (w : Way) (place value : ℕ) → masked (worded_way w place value) ≡ masked (worded_way (masked w) place value)
-masked_worded w place value = by-valid w.valid w.protect w.tag w.words
+masked_worded w place value = by_valid w.valid w.protect w.tag w.words
   where
-    by-valid : (v p : Bool) (t : ℕ) (ws : List ℕ) → masked (worded_way (record { valid = v; protect = p; tag = t; words = ws }) place value) ≡ masked (worded_way (masked (record { valid = v; protect = p; tag = t; words = ws })) place value)
-    by-valid true p t ws = refl
-    by-valid false p t ws = refl
+    by_valid : (v p : Bool) (t : ℕ) (ws : List ℕ) → masked (worded_way (record { valid = v; protect = p; tag = t; words = ws }) place value) ≡ masked (worded_way (masked (record { valid = v; protect = p; tag = t; words = ws })) place value)
+    by_valid true p t ws = refl
+    by_valid false p t ws = refl
 
 pub put_worded : (d : Dir) (i : ℕ) (k : WayNumber) (w : Way) (place value : ℕ) → put d i k (worded_way w place value) ≡ put d i k (worded_way (masked w) place value)
 put_worded d i k w place value = λ n. record {

@@ -57,24 +57,24 @@ module _ (a b : State) (lined : a.facts.words % 8 ≡ 0) where
           grind (arith, nat_tests)
 
   -- a place below the end of the map and not on the low side is on the high side
-  pub on-high : (w : ℕ) → w < (joint_state a b).facts.words → a.facts.words ≤ w → w - a.facts.words < b.facts.words
-  on-high w h k = grind (arith, nat_tests)
+  pub on_high : (w : ℕ) → w < (joint_state a b).facts.words → a.facts.words ≤ w → w - a.facts.words < b.facts.words
+  on_high w h k = grind (arith, nat_tests)
 
   pub read_low : (w : ℕ) → a.waiting ≡ [] → w < (joint_state a b).facts.words → w < a.facts.words → read_answer a w ≡ read_answer (joint_state a b) w
   read_low w none h k = read_settled a w none ∙ grind (arith, nat_tests)
 
-  pub read-high : (w : ℕ) → b.waiting ≡ [] → w < (joint_state a b).facts.words → a.facts.words ≤ w →
+  pub read_high : (w : ℕ) → b.waiting ≡ [] → w < (joint_state a b).facts.words → a.facts.words ≤ w →
       shifted a.facts.words (read_answer b (w - a.facts.words)) ≡ read_answer (joint_state a b) w
-  read-high w none h k =
-      let there : w - a.facts.words < b.facts.words = on-high w h k in
+  read_high w none h k =
+      let there : w - a.facts.words < b.facts.words = on_high w h k in
       let back : w - a.facts.words + a.facts.words ≡ w = omega arith in
       ap (shifted a.facts.words) (read_settled b (w - a.facts.words) none) ∙ grind (arith, nat_tests)
 
-  pub outside-low-is : (a' : State) (w : Write) → w.word < a.facts.words → a' ≡ outside w a → joint_state a' b ≡ outside w (joint_state a b)
-  outside-low-is a' w h e = ap (λ x. joint_state x b) e ∙ outside_low w h
+  pub outside_low_is : (a' : State) (w : Write) → w.word < a.facts.words → a' ≡ outside w a → joint_state a' b ≡ outside w (joint_state a b)
+  outside_low_is a' w h e = ap (λ x. joint_state x b) e ∙ outside_low w h
 
-  pub outside-high-is : (b' : State) (w : Write) → a.facts.words ≤ w.word → b' ≡ outside (lowered a.facts.words w) b → joint_state a b' ≡ outside w (joint_state a b)
-  outside-high-is b' w h e = ap (joint_state a) e ∙ outside_high w h
+  pub outside_high_is : (b' : State) (w : Write) → a.facts.words ≤ w.word → b' ≡ outside (lowered a.facts.words w) b → joint_state a b' ≡ outside w (joint_state a b)
+  outside_high_is b' w h e = ap (joint_state a) e ∙ outside_high w h
 
 unshifted : (n : ℕ) (q : Result (Unit {0}) Fault) → Ok tt ≡ shifted n q → q ≡ Ok tt
 unshifted n (Ok _) e = refl
@@ -106,13 +106,13 @@ module _ {L H : Type 0} (ls : L → State) (ld : L → Step → L → Type 0) (h
           did = when_yes _ _ _ (lt-ltb _ _ in_map) (when_yes _ _ _ (lt-ltb _ _ in-low) (did, refl));
         }
 
-    high-read-at : (high' : H) (q r : Result ℕ Fault) → (ls j.low).facts.words ≤ w →
+    high_read_at : (high' : H) (q r : Result ℕ Fault) → (ls j.low).facts.words ≤ w →
         q ≡ read_answer (hs j.high) (w - (ls j.low).facts.words) → Settles (hs j.high) (hs high') → hd j.high (reads (w - (ls j.low).facts.words) q) high' →
         r ≡ shifted (ls j.low).facts.words q → ReadDone w r (record { low = j.low; high = high' })
-    high-read-at high' q r past value after did e =
+    high_read_at high' q r past value after did e =
         let same : hs high' ≡ hs j.high = settles_still (hs j.high) (hs high') still.high after in
         let told : r ≡ read_answer (state j) w =
-        e ∙ ap (shifted (ls j.low).facts.words) value ∙ read-high (ls j.low) (hs j.high) lined w still.high in_map past in
+        e ∙ ap (shifted (ls j.low).facts.words) value ∙ read_high (ls j.low) (hs j.high) lined w still.high in_map past in
         record {
           rests = still_same (ls j.low) (hs j.high) (ls j.low) (hs high') still refl same;
           value = told;
@@ -126,7 +126,7 @@ module _ {L H : Type 0} (ls : L → State) (ld : L → Step → L → Type 0) (h
         q ≡ read_answer (hs j.high) (w - n) → Settles (hs j.high) (hs high') → hd j.high (reads (w - n) q) high' → r ≡ shifted n q →
         ReadDone w r (record { low = j.low; high = high' })
     high_read high' q r n is past value after did e =
-        high-read-at high' q r (subst (λ m. m ≤ w) is past) (subst (λ m. q ≡ read_answer (hs j.high) (w - m)) is value) after
+        high_read_at high' q r (subst (λ m. m ≤ w) is past) (subst (λ m. q ≡ read_answer (hs j.high) (w - m)) is value) after
         (subst (λ m. hd j.high (reads (w - m) q) high') is did) (subst (λ m. r ≡ shifted m q) is e)
 
   -- what a write from outside and a processor write owe
@@ -142,62 +142,62 @@ module _ {L H : Type 0} (ls : L → State) (ld : L → Step → L → Type 0) (h
     pub did : MapWrites ls ld hs hd j w (Ok tt) k
 
   module _ (w : Write) (accepted : Ok tt ≡ write_answer (state j) w) where
-    in-lanes : laned w.lanes ≡ true
-    in-lanes = grind (arith, nat_tests)
+    in_lanes : laned w.lanes ≡ true
+    in_lanes = grind (arith, nat_tests)
 
-    in-map-word : w.word < (state j).facts.words
-    in-map-word = grind (arith, nat_tests)
+    in_map_word : w.word < (state j).facts.words
+    in_map_word = grind (arith, nat_tests)
 
-    low-takes : w.word < (ls j.low).facts.words → write_answer (ls j.low) w ≡ Ok tt
-    low-takes h = let l = in-lanes in grind (arith, nat_tests)
+    low_takes : w.word < (ls j.low).facts.words → write_answer (ls j.low) w ≡ Ok tt
+    low_takes h = let l = in_lanes in grind (arith, nat_tests)
 
-    high-takes : (ls j.low).facts.words ≤ w.word → write_answer (hs j.high) (lowered (ls j.low).facts.words w) ≡ Ok tt
-    high-takes h =
-        let l = in-lanes in
-        let there = on-high (ls j.low) (hs j.high) lined w.word in-map-word h in
+    high_takes : (ls j.low).facts.words ≤ w.word → write_answer (hs j.high) (lowered (ls j.low).facts.words w) ≡ Ok tt
+    high_takes h =
+        let l = in_lanes in
+        let there = on_high (ls j.low) (hs j.high) lined w.word in_map_word h in
         grind (arith, nat_tests)
 
-    outside-done : (k : JoinedMap L H) → Still (ls k.low) (hs k.high) → state k ≡ outside w (state j) → MapOutside ls ld hs hd j w (Ok tt) k → (r : Result (Unit {0}) Fault) → Ok tt ≡ r → OutsideDone w r k
-    outside-done k rests after did r e = subst (λ x. OutsideDone w x k) e (record { rests = rests; value = accepted; after = after; did = did })
+    outside_done : (k : JoinedMap L H) → Still (ls k.low) (hs k.high) → state k ≡ outside w (state j) → MapOutside ls ld hs hd j w (Ok tt) k → (r : Result (Unit {0}) Fault) → Ok tt ≡ r → OutsideDone w r k
+    outside_done k rests after did r e = subst (λ x. OutsideDone w x k) e (record { rests = rests; value = accepted; after = after; did = did })
 
-    pub low-outside : (low' : L) (r : Result (Unit {0}) Fault) → w.word < (ls j.low).facts.words → r ≡ write_answer (ls j.low) w →
+    pub low_outside : (low' : L) (r : Result (Unit {0}) Fault) → w.word < (ls j.low).facts.words → r ≡ write_answer (ls j.low) w →
         ByAnswer r (ls low' ≡ outside w (ls j.low)) (low' ≡ j.low) → ld j.low (outsides w r) low' → OutsideDone w r (record { low = low'; high = j.high })
-    low-outside low' r h value after did =
-        let ok : r ≡ Ok tt = value ∙ low-takes h in
+    low_outside low' r h value after did =
+        let ok : r ≡ Ok tt = value ∙ low_takes h in
         let now : ls low' ≡ outside w (ls j.low) = subst (λ x. ByAnswer x (ls low' ≡ outside w (ls j.low)) (low' ≡ j.low)) ok after in
-        outside-done (record { low = low'; high = j.high })
+        outside_done (record { low = low'; high = j.high })
         (record { low = ap (λ (x : State). x.waiting) now ∙ still.low; high = still.high })
-        (outside-low-is (ls j.low) (hs j.high) lined (ls low') w h now)
+        (outside_low_is (ls j.low) (hs j.high) lined (ls low') w h now)
         (when_yes _ _ _ (lt-ltb _ _ h) (subst (λ x. ld j.low (outsides w x) low') ok did, refl))
         r (sym ok)
 
-    pub high-outside : (high' : H) (q r : Result (Unit {0}) Fault) (n : ℕ) → n ≡ (ls j.low).facts.words → n ≤ w.word →
+    pub high_outside : (high' : H) (q r : Result (Unit {0}) Fault) (n : ℕ) → n ≡ (ls j.low).facts.words → n ≤ w.word →
         q ≡ write_answer (hs j.high) (lowered n w) → ByAnswer q (hs high' ≡ outside (lowered n w) (hs j.high)) (high' ≡ j.high) →
         hd j.high (outsides (lowered n w) q) high' → r ≡ shifted n q → OutsideDone w r (record { low = j.low; high = high' })
-    high-outside high' q r n is past value after did e =
+    high_outside high' q r n is past value after did e =
         let h : (ls j.low).facts.words ≤ w.word = subst (λ m. m ≤ w.word) is past in
-        let ok : q ≡ Ok tt = subst (λ m. q ≡ write_answer (hs j.high) (lowered m w)) is value ∙ high-takes h in
+        let ok : q ≡ Ok tt = subst (λ m. q ≡ write_answer (hs j.high) (lowered m w)) is value ∙ high_takes h in
         let now : hs high' ≡ outside (lowered (ls j.low).facts.words w) (hs j.high) =
         subst (λ m. hs high' ≡ outside (lowered m w) (hs j.high)) is
         (subst (λ x. ByAnswer x (hs high' ≡ outside (lowered n w) (hs j.high)) (high' ≡ j.high)) ok after) in
-        outside-done (record { low = j.low; high = high' })
+        outside_done (record { low = j.low; high = high' })
         (record { low = still.low; high = ap (λ (x : State). x.waiting) now ∙ still.high })
-        (outside-high-is (ls j.low) (hs j.high) lined (hs high') w h now)
+        (outside_high_is (ls j.low) (hs j.high) lined (hs high') w h now)
         (when_no _ _ _ (le-ltb _ _ h) (refl, subst (λ m. hd j.high (outsides (lowered m w) (Ok tt)) high') is (subst (λ x. hd j.high (outsides (lowered n w) x) high') ok did)))
         r (sym (e ∙ ap (shifted n) ok))
 
     write_done : (k : JoinedMap L H) → Still (ls k.low) (hs k.high) → state k ≡ outside w (state j) → MapWrites ls ld hs hd j w (Ok tt) k → WriteDone w k
     write_done k rests after did = record { rests = rests; after = stored_at_once (state j) (state k) w refl after; did = did }
 
-    pub low-write : (between low' : L) (high' : H) → w.word < (ls j.low).facts.words → Settles (posted (w ∷ []) (ls j.low)) (ls between) →
+    pub low_write : (between low' : L) (high' : H) → w.word < (ls j.low).facts.words → Settles (posted (w ∷ []) (ls j.low)) (ls between) →
         ld j.low (writes w (Ok tt)) between → ls low' ≡ drained (ls between) → Drains ls ld between low' → hs high' ≡ drained (hs j.high) → Drains hs hd j.high high' →
         WriteDone w (record { low = low'; high = high' })
-    low-write between low' high' h after did el dl eh dh =
+    low_write between low' high' h after did el dl eh dh =
         let now : ls low' ≡ outside w (ls j.low) = written_drained (ls j.low) (ls between) (ls low') w still.low after el in
         let same : hs high' ≡ hs j.high = eh ∙ drained_still (hs j.high) still.high in
         write_done (record { low = low'; high = high' })
         (record { low = ap (λ (x : State). x.waiting) now ∙ still.low; high = ap (λ (x : State). x.waiting) same ∙ still.high })
-        (ap (joint_state (ls low')) same ∙ outside-low-is (ls j.low) (hs j.high) lined (ls low') w h now)
+        (ap (joint_state (ls low')) same ∙ outside_low_is (ls j.low) (hs j.high) lined (ls low') w h now)
         (when_yes _ _ _ (lt-ltb _ _ h) (record { between = between; posts = did; drains = dl }, dh))
 
     pub high_write : (between high' : H) (low' : L) (q : Result (Unit {0}) Fault) (n : ℕ) → n ≡ (ls j.low).facts.words → n ≤ w.word → Ok tt ≡ shifted n q →
@@ -215,5 +215,5 @@ module _ {L H : Type 0} (ls : L → State) (ld : L → Step → L → Type 0) (h
         let posts : hd j.high (writes (lowered n w) (Ok tt)) between = subst (λ x. hd j.high (writes (lowered n w) x) between) taken did in
         write_done (record { low = low'; high = high' })
         (record { low = ap (λ (x : State). x.waiting) same ∙ still.low; high = ap (λ (x : State). x.waiting) now ∙ still.high })
-        (ap (λ x. joint_state x (hs high')) same ∙ outside-high-is (ls j.low) (hs j.high) lined (hs high') w h now)
+        (ap (λ x. joint_state x (hs high')) same ∙ outside_high_is (ls j.low) (hs j.high) lined (hs high') w h now)
         (when_no _ _ _ (le-ltb _ _ h) (dl, record { between = between; posts = subst (λ m. hd j.high (writes (lowered m w) (Ok tt)) between) is posts; drains = dh }))

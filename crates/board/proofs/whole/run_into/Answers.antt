@@ -13,9 +13,9 @@ loop-call-init g c = record {
 pub loop-call-preserved : goal.loop-call-preserved
 loop-call-preserved g c = record {
   sound = c.call-answer.ensures.sound;
-  made = made_turn _ _ _ _ _ _ _ _ _ _ _ _ _ _ _ c.loop-call-test.true c.push-reserved.ensures.items c.loop-call.invariant.made.1 c.call-answer.ensures.called;
-  len = omega (arith, c.push-reserved.ensures.len);
-  room = omega (arith, c.push-reserved.ensures.capacity);
+  made = made_turn _ _ _ _ _ _ _ _ _ _ _ _ _ _ _ c.loop-call-test.true c.push_reserved.ensures.items c.loop-call.invariant.made.1 c.call-answer.ensures.called;
+  len = omega (arith, c.push_reserved.ensures.len);
+  room = omega (arith, c.push_reserved.ensures.capacity);
 }
 
 pub returns : goal.returns

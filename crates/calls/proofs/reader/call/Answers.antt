@@ -3,7 +3,7 @@ use Rattle.calls.specs.Format.{kind_of}
 use Rattle.calls.proofs.reader.call.Goals as goal
 use Rattle.calls.proofs.Reading.{no_kind}
 
-pub returns-in-default : goal.returns-in-default
-returns-in-default c =
+pub returns-in_default : goal.returns-in_default
+returns-in_default c =
     let h : 14 ≤ kind_of c.args.head = omega arith in
     ap Err c.malformed.ensures ∙ sym (no_kind c.args.index c.args.head c.args.next h)

@@ -1,15 +1,15 @@
 use Rattle.std.proofs.Common.{◌≡◌, sym, refl, ap, ◌∙◌}
 use Rattle.std.proofs.lemmas.Result.{err_from_is_err_and}
 use Rattle.calls.proofs.whole.read_list.Goals as goal
-use Rattle.calls.proofs.Reading.{turn_more, turn_end, turn-stop, turn_less}
+use Rattle.calls.proofs.Reading.{turn_more, turn_end, turn_stop, turn_less}
 use Rattle.calls.proofs.Codec.{list_encodes_its_calls}
 
-pub returns-in-err-call : goal.returns-in-err-call
-returns-in-err-call c =
-    let p = err_from_is_err_and c.from-residual.result c.from-residual.ensures.1 in
+pub returns-in_err-call : goal.returns-in_err-call
+returns-in_err-call c =
+    let p = err_from_is_err_and c.from_residual.result c.from_residual.ensures.1 in
     record {
-      answer = rw (p.1, p.2) (turn-stop _ _ _ _ _ c.loop-calls.invariant.0 c.loop-calls.invariant.1 _ c.in-err-call.ensures.value);
-      law = list_encodes_its_calls c.args.bytes.now (λ i. (c.type-inv.bytes i).fits);
+      answer = rw (p.1, p.2) (turn_stop _ _ _ _ _ c.loop-calls.invariant.0 c.loop-calls.invariant.1 _ c.in_err-call.ensures.value);
+      law = list_encodes_its_calls c.args.bytes.now (λ i. (c.type_inv.bytes i).fits);
     }
 
 pub loop-calls-smaller : goal.loop-calls-smaller
@@ -22,14 +22,14 @@ loop-calls-preserved c = (
   turn_more _ _ _ _ _ c.loop-calls.invariant.0 c.loop-calls.invariant.1 _ _ _ _ c.in_ok-call.ensures.value c.in_ok-call.ensures.moved c.in-Some.is c.in_ok-push.ensures.items,
 )
 
-pub returns-in-err-push : goal.returns-in-err-push
-returns-in-err-push c =
-    let p = err_from_is_err_and c.from-residual-in-err-push.result c.from-residual-in-err-push.ensures.1 in
-    record { answer = rw (p.1, p.2) tt; law = list_encodes_its_calls c.args.bytes.now (λ i. (c.type-inv.bytes i).fits) }
+pub returns-in_err-push : goal.returns-in_err-push
+returns-in_err-push c =
+    let p = err_from_is_err_and c.from_residual-in_err-push.result c.from_residual-in_err-push.ensures.1 in
+    record { answer = rw (p.1, p.2) tt; law = list_encodes_its_calls c.args.bytes.now (λ i. (c.type_inv.bytes i).fits) }
 
 pub returns : goal.returns
 returns c =
     record {
       answer = turn_end _ _ _ _ _ c.loop-calls.invariant.0 c.loop-calls.invariant.1 _ c.in_ok-call.ensures.value c.in_default.is;
-      law = list_encodes_its_calls c.args.bytes.now (λ i. (c.ok.bytes i).fits);
+      law = list_encodes_its_calls c.args.bytes.now (λ i. (c.type_inv.bytes i).fits);
     }

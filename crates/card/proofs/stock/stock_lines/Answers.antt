@@ -8,4 +8,4 @@ use Rattle.card.proofs.stock.stock_lines.Goals as goal
 pub loop-line-preserved : goal.loop-line-preserved
 loop-line-preserved c =
     stocked_more stock_line blank _ _ _ c.loop-line.invariant
-    (c.in-ok-push.ensures.items ∙ ap (λ (x : Line). vec_items c.loop-line.lines ++ (x ∷ [])) c.stock-line.ensures)
+    (c.in_ok-push.ensures.items ∙ ap (λ (x : Line). vec_items c.loop-line.lines ++ (x ∷ [])) c.stock_line.ensures)

@@ -2,7 +2,7 @@ use Rattle.std.proofs.Common.{◌≡◌, ◌%◌, ◌<◌, Ok, sym, arith}
 use Rattle.std.proofs.lemmas.Bool.Decides.{nat_tests}
 use Rattle.port.specs.Meaning.{writing, write_answer}
 use Rattle.joined_map.specs.Joint.{joint_state}
-use Rattle.joined_map.proofs.Joints.{low-outside, high-outside}
+use Rattle.joined_map.proofs.Joints.{low_outside, high_outside}
 use Rattle.joined_map.proofs.JoinedMapPort.outside_write.Goals as goal
 
 pub returns-then-word-split : goal.returns-then-word-split
@@ -11,9 +11,9 @@ returns-then-word-split g c =
     let w = writing c.args.word c.args.lanes c.args.value in
     let taken : Ok tt ≡ write_answer (joint_state (g.L.Port.state j.low) (g.H.Port.state j.high)) w = grind (arith, nat_tests) in
     let lined : (g.L.Port.state j.low).facts.words % 8 ≡ 0 = omega arith in
-    let d = low-outside g.L.Port.state g.L.Port.does g.H.Port.state g.H.Port.does j c.requires.2 lined w taken
-    c.outside-write.new.self c.outside-write.result (omega arith) c.outside-write.ensures.value c.outside-write.ensures.after c.outside-write.ensures.did in
-    record { sound = (c.outside-write.ensures.sound, c.requires.1, d.rests); value = d.value; after = d.after; did = d.did }
+    let d = low_outside g.L.Port.state g.L.Port.does g.H.Port.state g.H.Port.does j c.requires.2 lined w taken
+    c.outside_write.new.self c.outside_write.result (omega arith) c.outside_write.ensures.value c.outside_write.ensures.after c.outside_write.ensures.did in
+    record { sound = (c.outside_write.ensures.sound, c.requires.1, d.rests); value = d.value; after = d.after; did = d.did }
 
 pub returns : goal.returns
 returns g c =
@@ -21,7 +21,7 @@ returns g c =
     let w = writing c.args.word c.args.lanes c.args.value in
     let taken : Ok tt ≡ write_answer (joint_state (g.L.Port.state j.low) (g.H.Port.state j.high)) w = grind (arith, nat_tests) in
     let lined : (g.L.Port.state j.low).facts.words % 8 ≡ 0 = omega arith in
-    let d = high-outside g.L.Port.state g.L.Port.does g.H.Port.state g.H.Port.does j c.requires.2 lined w taken
-    c.outside-write-2.new.self c.outside-write-2.result c.shifted.result c.words-split.result c.words-split.ensures.value (omega arith)
-    c.outside-write-2.ensures.value c.outside-write-2.ensures.after c.outside-write-2.ensures.did c.shifted.ensures in
-    record { sound = (c.requires.0, c.outside-write-2.ensures.sound, d.rests); value = d.value; after = d.after; did = d.did }
+    let d = high_outside g.L.Port.state g.L.Port.does g.H.Port.state g.H.Port.does j c.requires.2 lined w taken
+    c.outside_write-2.new.self c.outside_write-2.result c.shifted.result c.words-split.result c.words-split.ensures.value (omega arith)
+    c.outside_write-2.ensures.value c.outside_write-2.ensures.after c.outside_write-2.ensures.did c.shifted.ensures in
+    record { sound = (c.requires.0, c.outside_write-2.ensures.sound, d.rests); value = d.value; after = d.after; did = d.did }

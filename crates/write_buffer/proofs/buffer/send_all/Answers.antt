@@ -7,10 +7,10 @@ use Rattle.write_buffer.proofs.buffer.send_all.Goals as goal
 
 pub returns : goal.returns
 returns g c =
-    let none = popped_none (queued c.loop-oldest.queue) c.in-default.ensures.value in
+    let none = popped_none (queued c.loop-oldest.queue) c.in_default.ensures.value in
     record {
       sound = c.loop-oldest.invariant.0;
-      queue = c.in-default.ensures.after ∙ ap younger none;
+      queue = c.in_default.ensures.after ∙ ap younger none;
       after = turn_ends _ _ (queued c.loop-oldest.queue) none c.loop-oldest.invariant.2;
       did = c.loop-oldest.invariant.3 c.loop-oldest.below (none_sent (queued c.loop-oldest.queue) none);
     }

@@ -8,7 +8,7 @@ pub returns : goal.returns
 returns c =
     record {
       sound = tt;
-      value = c.outside-write.ensures.value;
-      after = accepted_at_once _ c.outside-write.result (eprom_state c.args.self.now.bytes.now) _ (writing c.args.word c.args.lanes c.args.value) refl c.outside-write.ensures.after;
-      did = c.outside-write.ensures.did;
+      value = c.outside_write.ensures.value;
+      after = accepted_at_once _ c.outside_write.result (eprom_state c.args.self.now.bytes.now) _ (writing c.args.word c.args.lanes c.args.value) refl c.outside_write.ensures.after;
+      did = c.outside_write.ensures.did;
     }

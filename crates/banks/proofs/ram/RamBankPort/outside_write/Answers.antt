@@ -1,6 +1,6 @@
 use Rattle.std.proofs.Common.{◌≡◌, refl, arith, rules}
 use Rattle.port.specs.Meaning.{writing}
-use Rattle.banks.proofs.Records.{changed-state, changed-records}
+use Rattle.banks.proofs.Records.{changed_state, changed_records}
 use Rattle.banks.proofs.ram.RamBankPort.outside_write.Goals as goal
 
 pub returns-then-not-self-line : goal.returns-then-not-self-line
@@ -10,6 +10,6 @@ returns-then-not-self-line c =
     record {
       sound = tt;
       value = search rules;
-      after = changed-state ls w (search rules) c.change.ensures.full (grind arith) _ c.change.ensures.after;
-      did = record { records = changed-records ls w (search rules) c.change.ensures.full (grind arith) _ c.change.ensures.after; caller = refl };
+      after = changed_state ls w (search rules) c.change.ensures.full (grind arith) _ c.change.ensures.after;
+      did = record { records = changed_records ls w (search rules) c.change.ensures.full (grind arith) _ c.change.ensures.after; caller = refl };
     }

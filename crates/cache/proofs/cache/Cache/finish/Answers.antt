@@ -22,16 +22,16 @@ pub loop-self-smaller : goal.loop-self-smaller
 loop-self-smaller g c =
     let m = model c.loop-self.self.tables in
     let yes : is_some m.fill ≡ true = search rules in
-    fetch_less (shown (g.P.Port.state c.loop-self.self.below)) m.dir m.fill (model c.fetch-one.new.self.tables) c.loop-self.invariant.0.kept c.fetch-one.ensures.did.tables yes
+    fetch_less (shown (g.P.Port.state c.loop-self.self.below)) m.dir m.fill (model c.fetch_one.new.self.tables) c.loop-self.invariant.0.kept c.fetch_one.ensures.did.tables yes
 
 pub loop-self-preserved : goal.loop-self-preserved
 loop-self-preserved g c =
     let s = g.P.Port.state c.args.self.now.below in
     let t = g.P.Port.state c.loop-self.self.below in
-    let u = g.P.Port.state c.fetch-one.new.self.below in
+    let u = g.P.Port.state c.fetch_one.new.self.below in
     let m = model c.loop-self.self.tables in
-    let n = model c.fetch-one.new.self.tables in
-    let f = c.fetch-one.ensures in
+    let n = model c.fetch_one.new.self.tables in
+    let f = c.fetch_one.ensures in
     let yes : is_some m.fill ≡ true = search rules in (
       f.sound,
       settles_then s t u c.loop-self.invariant.1 f.after,

@@ -6,8 +6,8 @@ use Rattle.cache_tables.specs.Rules.{model, turn, finish_turn, fills_open}
 use Rattle.cache.proofs.Calling.{takes_as, ready_open, ready_still, finished_open}
 use Rattle.cache.proofs.cache.Cache.make_ready.Goals as goal
 
-pub returns-then-fills-open : goal.returns-then-fills-open
-returns-then-fills-open g c =
+pub returns-then-fills_open : goal.returns-then-fills_open
+returns-then-fills_open g c =
     let v = shown (g.P.Port.state c.args.self.now.below) in
     let m = model c.args.self.now.tables in
     let yes : fills_open m.fill c.args.line ≡ true = search rules in
@@ -18,8 +18,8 @@ returns-then-fills-open g c =
       closed = finished_open v m (model c.finish.new.self.tables) c.args.line c.finish.ensures.did.tables;
     }
 
-pub returns-else-fills-open : goal.returns-else-fills-open
-returns-else-fills-open g c =
+pub returns-else-fills_open : goal.returns-else-fills_open
+returns-else-fills_open g c =
     let v = shown (g.P.Port.state c.args.self.now.below) in
     let m = model c.args.self.now.tables in
     let no : fills_open m.fill c.args.line ≡ false = search rules in

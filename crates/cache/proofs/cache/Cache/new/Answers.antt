@@ -2,7 +2,7 @@ use Rattle.std.proofs.Common.{refl, arith}
 use Rattle.cache.proofs.Calling.{cleared_kept}
 use Rattle.cache_tables.proofs.Lawful.{caching_is_lawful}
 use Rattle.cache_tables.proofs.Trying.{worked_examples}
-use Rattle.cache.proofs.Passing.{only-reads-are-kept}
+use Rattle.cache.proofs.Passing.{only_reads_are_kept}
 use Rattle.cache.proofs.cache.Cache.new.Goals as goal
 
 pub returns : goal.returns
@@ -14,5 +14,5 @@ returns g c =
       tables = c.new.ensures;
       law = caching_is_lawful;
       examples = worked_examples;
-      run = only-reads-are-kept g.P.Port.state g.P.Port.does;
+      run = only_reads_are_kept g.P.Port.state g.P.Port.does;
     }

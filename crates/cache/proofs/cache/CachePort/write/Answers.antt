@@ -4,24 +4,24 @@ use Rattle.port.specs.Steps.{done, then}
 use Rattle.port.proofs.Checking.{can_write, as_ok, in_ok}
 use Rattle.port.proofs.Chains.{chain_append}
 use Rattle.cache_tables.specs.Rules.{Model, model, written}
-use Rattle.cache.proofs.Calling.{write_kept, write-settles, taken_later}
+use Rattle.cache.proofs.Calling.{write_kept, write_settles, taken_later}
 use Rattle.cache.proofs.cache.CachePort.write.Goals as goal
 
 pub returns : goal.returns
 returns g c =
     let s = g.P.Port.state c.args.self.now.below in
-    let t = g.P.Port.state c.make-ready.new.self.below in
+    let t = g.P.Port.state c.make_ready.new.self.below in
     let u = g.P.Port.state c.write.new.self in
-    let n = model c.make-ready.new.self.tables in
+    let n = model c.make_ready.new.self.tables in
     let o = model c.change.new.self in
     let w = writing c.args.word c.args.lanes c.args.value in
-    let r = c.make-ready.ensures in
-    let h = can_write s c.args.word c.args.lanes c.words.result c.floor.result c.in-ok-check-write.ensures c.words.ensures.value c.floor.ensures in
+    let r = c.make_ready.ensures in
+    let h = can_write s c.args.word c.args.lanes c.words.result c.floor.result c.in_ok-check_write.ensures c.words.ensures.value c.floor.ensures in
     let ok = c.write.ensures.value ∙ taken_later s t w r.after h.below in
     let joins = in_ok _ _ c.write.result ok c.write.ensures.after in
     record {
       sound = record { below = c.write.ensures.sound; kept = write_kept s t u w r.after joins n o r.sound.kept r.closed c.change.ensures };
       value = ok ∙ sym h.own;
-      after = as_ok _ _ c.write.result ok (write-settles s t u w r.after joins);
+      after = as_ok _ _ c.write.result ok (write_settles s t u w r.after joins);
       did = as_ok _ _ c.write.result ok (record { tables = c.change.ensures ∙ ap (λ (m : Model). written m w) r.did.tables; below = chain_append r.did.below (then c.write.ensures.did done) });
     }

@@ -9,4 +9,4 @@ returns-then-not-way c =
     let d = view c.args.self.now.directory in
     let shut : c.way-way.result.protect ≡ false = search rules in
     changed_open d (view c.touch.new.self) (view c.change.new.self) c.args.self.now.fill (writing c.args.word c.args.lanes c.args.value) c.in-Some.number c.way-way.result
-    c.join-lanes.result c.in-Some.ensures.value c.way-way.ensures shut c.touch.ensures.after c.join-lanes.ensures c.change.ensures.after
+    c.join_lanes.result c.in-Some.ensures.value c.way-way.ensures shut c.touch.ensures.after c.join_lanes.ensures c.change.ensures.after

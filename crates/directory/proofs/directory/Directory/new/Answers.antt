@@ -5,8 +5,8 @@ use Rattle.directory.proofs.Apart.{apart_emptied}
 use Rattle.directory.proofs.Trying.{worked_examples}
 use Rattle.directory.proofs.directory.Directory.new.Goals as goal
 
-pub invariant-of-result : goal.invariant-of-result
-invariant-of-result c = (subst TagsAreApart (sym view_empty) apart_emptied, tt)
+pub invariant_of-result : goal.invariant_of-result
+invariant_of-result c = record { apart = subst TagsAreApart (sym view_empty) apart_emptied }
 
 pub returns : goal.returns
 returns c = record { value = view_empty; examples = worked_examples }

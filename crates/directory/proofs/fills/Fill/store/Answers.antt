@@ -1,4 +1,4 @@
-use Rattle.directory.proofs.Ticking.{left-stored, left-ordered, left-count, left-adds, new_tick_adds_one}
+use Rattle.directory.proofs.Ticking.{left_stored, left_ordered, left_count, left_adds, new_tick_adds_one}
 use Rattle.directory.proofs.fills.Fill.store.Goals as goal
 
 pub returns : goal.returns
@@ -7,9 +7,9 @@ returns c =
     let p = c.next_place-place.result in
     let e = c.next_place-place.ensures in
     record {
-      after = left-stored b c.requires p c.args.value e.value e.small;
-      sound = left-ordered b c.requires p c.args.value e.value e.small;
-      count = left-count b c.requires p c.args.value e.value e.small;
-      adds = left-adds b c.requires p c.args.value e.value e.small;
+      after = left_stored b c.requires p c.args.value e.value e.small;
+      sound = left_ordered b c.requires p c.args.value e.value e.small;
+      count = left_count b c.requires p c.args.value e.value e.small;
+      adds = left_adds b c.requires p c.args.value e.value e.small;
       law = new_tick_adds_one;
     }

@@ -14,8 +14,8 @@ returns-then-waiting-gt0 g c =
     let waits : 0 < length (g.P.Port.state c.args.self.now.below).waiting = omega arith in
     record { sound = search (rules, sound_passed, settles_facts); after = search (rules, advances_below); did = search (rules, below, then, done) }
 
-pub send-on-requires : goal.send-on-requires
-send-on-requires g c =
+pub send_on-requires : goal.send_on-requires
+send_on-requires g c =
     let s = g.P.Port.state c.args.self.now.below in
     let ws = queued c.args.self.now.queue in
     let vs = queued c.pop.new.self in
@@ -33,13 +33,13 @@ returns-in-Some g c =
     let none : s.waiting ≡ [] = none_waits s.waiting (omega arith) in
     record { sound = search (rules, sound_sent); after = search (rules, advances_sent); did = search (rules, oldest) }
 
-pub returns-in-default : goal.returns-in-default
-returns-in-default g c =
+pub returns-in_default : goal.returns-in_default
+returns-in_default g c =
     let s = g.P.Port.state c.args.self.now.below in
     let ws = queued c.args.self.now.queue in
     let vs = queued c.pop.new.self in
     let none : s.waiting ≡ [] = none_waits s.waiting (omega arith) in
-    let empty = popped_none ws c.in-default.ensures.value in
+    let empty = popped_none ws c.in_default.ensures.value in
     let same = c.pop.ensures.kept empty in
     record {
       sound = record { below = c.requires.below; taken = takes_line s.facts ws vs (sym (ap queued same)) c.requires.taken };

@@ -6,7 +6,7 @@ use Rattle.write_buffer.proofs.buffer.WriteBufferPort.snoop.Goals as goal
 pub returns : goal.returns
 returns g c =
     let s = g.P.Port.state c.args.self.now.below in
-    let checked = in_range_lem s c.args.word c.words.result c.floor.result c.in-ok-check-range.ensures c.words.ensures.value c.floor.ensures in
+    let checked = in_range_lem s c.args.word c.words.result c.floor.result c.in_ok-check_range.ensures c.words.ensures.value c.floor.ensures in
     record {
       sound = search (rules, sound_answered);
       value = search (rules, answer_passed);

@@ -16,7 +16,7 @@ send-requires g c =
     let ws = queued c.args.self.now.queue in
     let vs = queued c.push.new.self in
     let w = writing c.args.word c.args.lanes c.args.value in
-    let checked = can_write s c.args.word c.args.lanes c.words.result c.floor.result c.in-ok-check-write.ensures c.words.ensures.value c.floor.ensures in
+    let checked = can_write s c.args.word c.args.lanes c.words.result c.floor.result c.in_ok-check_write.ensures c.words.ensures.value c.floor.ensures in
     record { sound = c.requires.below; taken = (takes_joined s.facts (Some c.in-Some.oldest) w ws vs c.in-Some.ensures.value c.push.ensures.after c.requires.taken checked.below).0 }
 
 pub returns-in-Some : goal.returns-in-Some
@@ -27,7 +27,7 @@ returns-in-Some g c =
     let w = writing c.args.word c.args.lanes c.args.value in
     let t = g.P.Port.state c.send.new.below in
     let o = c.in-Some.oldest in
-    let checked = can_write s c.args.word c.args.lanes c.words.result c.floor.result c.in-ok-check-write.ensures c.words.ensures.value c.floor.ensures in
+    let checked = can_write s c.args.word c.args.lanes c.words.result c.floor.result c.in_ok-check_write.ensures c.words.ensures.value c.floor.ensures in
     record {
       sound = record {
         below = c.send.ensures.sound;
@@ -38,16 +38,16 @@ returns-in-Some g c =
       did = record { queue = c.push.ensures.after; below = sends_left ws (Some o) c.in-Some.ensures.value (then c.send.ensures.did done) };
     }
 
-pub returns-in-default : goal.returns-in-default
-returns-in-default g c =
+pub returns-in_default : goal.returns-in_default
+returns-in_default g c =
     let s = g.P.Port.state c.args.self.now.below in
     let ws = queued c.args.self.now.queue in
     let vs = queued c.push.new.self in
     let w = writing c.args.word c.args.lanes c.args.value in
-    let checked = can_write s c.args.word c.args.lanes c.words.result c.floor.result c.in-ok-check-write.ensures c.words.ensures.value c.floor.ensures in
+    let checked = can_write s c.args.word c.args.lanes c.words.result c.floor.result c.in_ok-check_write.ensures c.words.ensures.value c.floor.ensures in
     record {
-      sound = record { below = c.requires.below; taken = takes_joined s.facts None w ws vs c.in-default.ensures.value c.push.ensures.after c.requires.taken checked.below };
+      sound = record { below = c.requires.below; taken = takes_joined s.facts None w ws vs c.in_default.ensures.value c.push.ensures.after c.requires.taken checked.below };
       value = sym checked.own;
-      after = joins_line s _ ws vs w (left_line None w ws vs c.in-default.ensures.value c.push.ensures.after) (settles_none (buffered s vs));
-      did = record { queue = c.push.ensures.after; below = sends_left ws None c.in-default.ensures.value done };
+      after = joins_line s _ ws vs w (left_line None w ws vs c.in_default.ensures.value c.push.ensures.after) (settles_none (buffered s vs));
+      did = record { queue = c.push.ensures.after; below = sends_left ws None c.in_default.ensures.value done };
     }
