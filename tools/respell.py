@@ -4,8 +4,9 @@
 Types, records and statements are in upper camel case, everything else in snake case; a dash stays only where a lemma's
 name joins a definition of ours to an operation on lists. Run it once at the top, after the toolchain's port.py. It reads
 the declarations in specs/ and proofs/ of every crate, and rewrites their names wherever they stand in .antt files, in
-clauses of .rt files and in the code of the pages of docs/. It stops, with nothing written, where two names would fall
-together.
+clauses of .rt files and in the code of the pages of docs/. Clauses then name a bound's members as today: `P.state`, where
+the older ones wrote the trait's name too, or in a function outside an impl nothing at all. It stops, with nothing
+written, where two names would fall together.
 """
 import collections
 import pathlib
@@ -81,6 +82,15 @@ def spelled(name, kinds, words):
     return snake(name)
 
 
+def members(text):
+    """A .rt file with the members of Port named by the parameter that is bound."""
+    text = re.sub(r"\b([A-Z])\.Port\.(state|sound|does)\b", r"\1.\2", text)
+    function = re.compile(r"^(?:pub )?fn \w+<P: Port>\(.*?^\{$", re.M | re.S)
+    bare = re.compile(r"(?<![.\w])(state|sound|does)\b(?! \{)")
+    clause = re.compile(r"^( +(?:requires|ensures) )(.*)$", re.M)
+    return function.sub(lambda f: clause.sub(lambda c: c[1] + bare.sub(r"P.\1", c[2]), f[0]), text)
+
+
 def main():
     top = subprocess.run(["git", "rev-parse", "--show-toplevel"], capture_output=True, text=True, check=True).stdout.strip()
     if pathlib.Path.cwd() != pathlib.Path(top).resolve():
@@ -108,7 +118,7 @@ def main():
     count = 0
     for p in formal + tracked("crates/*/src/*.rt", "crates/*/src/**/*.rt"):
         text = p.read_text()
-        new = turn(text)
+        new = members(turn(text)) if p.suffix == ".rt" else turn(text)
         if new != text:
             p.write_text(new)
             count += 1

@@ -1,4 +1,6 @@
 //! Tries banks and maps: their ends, lanes, unreadable words, marks and sizes.
+#![tactic(auto)]
+
 use banks::{EpromBank, Line, RamBank, eprom_size, ram_size};
 use fault::Fault;
 use joined_map::{JoinedMap, map_size};

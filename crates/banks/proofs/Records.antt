@@ -1,10 +1,10 @@
 -- What one changed record does to a RAM bank.
-use Rattle.std.proofs.Common.{◌≡◌, ℕ, ◌+◌, ◌*◌, ◌/◌, ◌%◌, ◌<◌, ◌≤◌, Bool, true, false, cond, eqb, ltb, leb, ◌≢◌, ◌⊎◌, List, [], ◌∷◌, length, get_or, set, sym, refl, ap, ◌∙◌, inl, inr, arith, length-set, get_or-set_other, get_or-set_same}
+use Rattle.std.proofs.Common.{◌≡◌, ℕ, ◌<◌, false, cond, List, [], length, get_or, set, sym, refl, ap, ◌∙◌, inl, inr, arith, length-set, get_or-set_other, get_or-set_same}
 use Rattle.std.proofs.lemmas.Bool.{cases_eq}
 use Rattle.std.proofs.lemmas.Bool.Decides.{nat_tests}
 use Rattle.port.specs.declared.Write.{Write}
 use Rattle.port.specs.Lanes.{joined}
-use Rattle.port.specs.Memory.{Memory, State, line_of, stored, outside}
+use Rattle.port.specs.Memory.{line_of, stored, outside}
 use Rattle.banks.specs.declared.line.Line.{Line}
 use Rattle.banks.specs.Sizes.{words_of_lines}
 use Rattle.banks.specs.Lines.{blank, line_at, place_of, memory_of, changed, recorded}

@@ -1,5 +1,5 @@
 -- An EPROM bank as a port: its bytes are its settled memory, all of it cacheable, protected and readable.
-use Rattle.std.specs.Prelude.{◌≡◌, ℕ, ◌+◌, ◌*◌, true, List, [], length, slice_index}
+use Rattle.std.specs.Prelude.{ℕ, ◌+◌, ◌*◌, true, List, [], length, slice_index}
 use Rattle.port.specs.Memory.{State, Memory}
 use Rattle.banks.specs.Sizes.{words_of_lines, lines_of_bytes}
 

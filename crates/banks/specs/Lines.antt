@@ -1,5 +1,5 @@
 -- Line records, and what a write does to them.
-use Rattle.std.specs.Prelude.{ℕ, ◌/◌, ◌%◌, Bool, true, false, cond, List, [], length, slice_index, slice_index_or, slice_set}
+use Rattle.std.specs.Prelude.{ℕ, ◌%◌, false, cond, List, [], slice_index, slice_index_or, slice_set}
 use Rattle.port.specs.declared.Write.{Write}
 use Rattle.port.specs.Lanes.{joined}
 use Rattle.port.specs.Memory.{Memory, line_of}

@@ -1,4 +1,6 @@
 //! The ports that all piles stand on: banks of RAM and of EPROM.
+#![tactic(auto)]
+
 mod eprom;
 mod line;
 mod ram;

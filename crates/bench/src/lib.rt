@@ -1,4 +1,6 @@
 //! The bench cards: what the stages come to on a few numbers, as one statement.
+#![tactic(auto)]
+
 ghost use Rattle.std.specs.Prelude.{◌≡◌};
 ghost use Rattle.bench.specs.Places.{location_of};
 ghost use Rattle.bench.specs.Cards.{BenchCards};

@@ -1,4 +1,6 @@
 //! Tries the bench cards on real boards, and prints what comes out.
+#![tactic(auto)]
+
 ghost use Rattle.std.specs.Prelude.{◌≡◌};
 ghost use Rattle.cache.specs.Doing.{Sound};
 

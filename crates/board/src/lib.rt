@@ -1,4 +1,6 @@
 //! The board: a port behind a lock and a grant, and the promise that it never shows an old digit.
+#![tactic(auto)]
+
 mod board;
 mod whole;
 

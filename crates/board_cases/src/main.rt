@@ -1,4 +1,6 @@
 //! Tries the board and the write buffer: every kind of call, two boards alike, buffers over buffers.
+#![tactic(auto)]
+
 use banks::{Line, RamBank};
 use board::{compare, run};
 use calls::{Call, Store};

@@ -10,7 +10,7 @@ use Rattle.calls.specs.declared.call.Cargo.TheVariants.{Store as OfStore}
 use Rattle.calls.specs.declared.call.Store.{Store}
 use Rattle.calls.specs.Calls.{cargo_of}
 use Rattle.port.specs.Memory.{State, seen, posted, drained, outside}
-use Rattle.port.specs.Meaning.{within, laned, unreadable, past_end, bad_lanes, then_ok, read_answer, write_answer, snoop_answer, Settles, Advances, ByAnswer, KeptAt, Kept as PortKept}
+use Rattle.port.specs.Meaning.{laned, unreadable, past_end, bad_lanes, then_ok, read_answer, write_answer, snoop_answer, Settles, Advances, ByAnswer, KeptAt, Kept as PortKept}
 use Rattle.port.specs.Steps.{Step, reads, writes, advances, outsides, snoops, flushes, done, then, Drains}
 use Rattle.port.proofs.Settling.{posted_none}
 use Rattle.book.specs.declared.answer.Mode.{Mode}

@@ -1,4 +1,6 @@
 //! The cache: a stage that keeps lines of the port below in a directory of 256 sets.
+#![tactic(auto)]
+
 mod cache;
 
 pub use cache::Cache;

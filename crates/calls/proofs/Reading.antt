@@ -1,5 +1,5 @@
 -- Where the words of a list stand among its bytes, and how a reader goes from one call to the next.
-use Rattle.std.proofs.Common.{◌≡◌, ℕ, zero, suc, ◌+◌, ◌-◌, ◌*◌, ◌/◌, ◌%◌, ◌<◌, ◌≤◌, ◌⊎◌, List, [], ◌∷◌, ◌++◌, length, get_or, drop, Some, None, Ok, Err, Option, Result, sym, refl, ap, ◌∙◌, subst, inl, inr, ⊎_elim, append_assoc, append-nil, add-zero, arith, get_or-drop, drop-drop}
+use Rattle.std.proofs.Common.{◌≡◌, ℕ, zero, suc, ◌+◌, ◌-◌, ◌*◌, ◌/◌, ◌<◌, ◌≤◌, ◌⊎◌, List, [], ◌∷◌, ◌++◌, length, get_or, drop, Some, None, Ok, Err, Option, Result, sym, refl, ap, ◌∙◌, inl, inr, ⊎_elim, append_assoc, append-nil, add-zero, arith, get_or-drop, drop-drop}
 use native.Mathlib.Decide.{dec_lt}
 use Rattle.std.proofs.lemmas.Bool.Decides.{nat_tests}
 use Rattle.fault.specs.declared.Fault.{Fault}
@@ -7,8 +7,8 @@ use Rattle.calls.specs.declared.call.Call.{Call}
 use Rattle.calls.specs.declared.call.Cargo.{Cargo}
 use Rattle.calls.specs.declared.call.Cargo.TheVariants.{Nothing, Word, Store}
 use Rattle.calls.specs.Calls.{cargo_of, size_with, size_of}
-use Rattle.calls.specs.Words.{word_of, words, word_at, words_from}
-use Rattle.calls.specs.Format.{malformed, map_ok, then_ok, kind_of, call_in, first_of, front, stride, followed, calls_from, length_in, next_in, meaning}
+use Rattle.calls.specs.Words.{words, word_at, words_from}
+use Rattle.calls.specs.Format.{malformed, map_ok, then_ok, kind_of, call_in, first_of, front, stride, followed, calls_from, length_in, next_in}
 
 -- the word with index i + 1 is the one with index i four bytes on
 at_four : (a b c d : ℕ) (rest : List ℕ) (i : ℕ) → word_at (a ∷ b ∷ c ∷ d ∷ rest) (suc i) ≡ word_at rest i

@@ -1,4 +1,6 @@
 //! Call lists: what a list of 32-bit words asks of the board, and the reader that takes it apart.
+#![tactic(auto)]
+
 mod call;
 mod error;
 mod reader;

@@ -7,7 +7,7 @@ use Rattle.calls.specs.declared.call.Call.TheVariants.{Read, Write as Post, Unpo
 use Rattle.port.specs.declared.Write.{Write}
 use Rattle.port.specs.Memory.{State}
 use Rattle.port.specs.Meaning.{write_answer, waiting_answer, ByAnswer}
-use Rattle.port.specs.Steps.{Step, writes, advances, Chain, done, then, Drains, empty, more}
+use Rattle.port.specs.Steps.{Step, writes, advances, done, then, Drains, empty, more}
 use Rattle.write_buffer.specs.declared.buffer.WriteBuffer.{WriteBuffer}
 use Rattle.write_buffer.specs.Queues.{queued}
 use Rattle.write_buffer.specs.Buffering.{Does as BufferDoes}
@@ -19,7 +19,7 @@ use Rattle.port.proofs.Chains.{chain_append}
 use Rattle.book.specs.declared.answer.Mode.{Mode}
 use Rattle.book.specs.declared.answer.Answer.{Answer}
 use Rattle.book.specs.Tables.{stop, write_of}
-use Rattle.book.specs.Calling.{Through, Makes, Reaches, Called}
+use Rattle.book.specs.Calling.{Through, Makes, Reaches}
 use Rattle.book.specs.Promise.{CallsMade, none_made, one_more, NeverAnOldDigit}
 use Rattle.card.specs.Stages.{Pile, buffer_state, pile_state, PileDoes, Fresh, Reached, RunOnTheStages}
 

@@ -10,11 +10,10 @@ use Rattle.write_buffer.specs.Buffering.{buffered}
 use Rattle.banks.specs.declared.line.Line.{Line}
 use Rattle.banks.specs.declared.ram.RamBank.{RamBank}
 use Rattle.banks.specs.declared.eprom.EpromBank.{EpromBank}
-use Rattle.banks.specs.Sizes.{unfit, fit_lines, size_of_lines, words_of_lines, lines_of_bytes}
-use Rattle.banks.specs.Lines.{line_at, place_of, memory_of, changed, recorded}
-use Rattle.banks.specs.Ram.{ram_state, RamWritten, RamDoes}
-use Rattle.banks.specs.Eprom.{eprom_state}
-use Rattle.joined_map.specs.Joint.{joint_state, Posted}
+use Rattle.banks.specs.Sizes.{unfit, fit_lines, size_of_lines, words_of_lines}
+use Rattle.banks.specs.Lines.{line_at, place_of, memory_of, changed}
+use Rattle.banks.specs.Ram.{RamWritten, RamDoes}
+use Rattle.joined_map.specs.Joint.{Posted}
 use Rattle.book.specs.declared.answer.Answer.{Answer}
 use Rattle.card.specs.Stages.{pile_state, RunOnTheStages}
 use Rattle.card.specs.Card.{card_size, unless_unfit, CardMemory, ram_state_of, eprom_state_of, memory_state, MemoryDoes, first_state, OnlyWordsDiffer, CardKeepsItsPromise}

@@ -1,5 +1,5 @@
 -- The memory that the card is delivered with.
-use Rattle.std.specs.Prelude.{◌≡◌, ℕ, ◌%◌, ◌<◌, Bool, true, false, cond, not, List, length, replicate, ◌==◌, slice_index_or, slice_set}
+use Rattle.std.specs.Prelude.{◌≡◌, ℕ, ◌%◌, ◌<◌, true, false, cond, not, List, length, replicate, ◌==◌, slice_index_or, slice_set}
 use Rattle.banks.specs.declared.line.Line.{Line}
 use Rattle.banks.specs.Lines.{blank}
 

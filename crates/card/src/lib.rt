@@ -1,4 +1,6 @@
 //! The card: from the caller's line records, EPROM bytes and call list to the answers, and to the text of each printed line.
+#![tactic(auto)]
+
 mod stages;
 mod stock;
 mod whole;

@@ -1,6 +1,6 @@
 -- No two valid ways of a set have the same tag: what keeps it, and what follows.
-use Rattle.std.proofs.Common.{◌≡◌, ℕ, zero, suc, ◌<◌, Bool, true, false, cond, not, ◌&&◌, eqb, ◌≢◌, ◌⊎◌, List, [], ◌∷◌, length, get_or, Some, None, Option, sym, refl, ap, ◌∙◌, subst, ap₂, inl, inr, arith}
-use Rattle.std.proofs.lemmas.Bool.{cases_eq, cases_Bool, eq-eqb, ne_eqb, eqb-true, cond-true, cond-false, and_from, and_left, and_right, not_from_true, both_ways}
+use Rattle.std.proofs.Common.{◌≡◌, ℕ, zero, suc, ◌<◌, Bool, true, false, not, ◌&&◌, eqb, ◌≢◌, List, [], ◌∷◌, length, get_or, Some, None, Option, sym, refl, ap, ◌∙◌, ap₂, inl, inr, arith}
+use Rattle.std.proofs.lemmas.Bool.{cases_eq, cases_Bool, eq-eqb, ne_eqb, cond-true, cond-false, and_from, and_left, and_right, not_from_true, both_ways}
 use Rattle.std.proofs.lemmas.Bool.Decides.{nat_tests}
 use Rattle.directory.specs.declared.marks.WayNumber.{WayNumber}
 use Rattle.directory.specs.declared.marks.WayNumber.TheVariants.{Zero, One, Two, Three}
@@ -9,7 +9,7 @@ use Rattle.directory.specs.declared.directory.Directory.{Directory}
 use Rattle.directory.specs.View.{view}
 use Rattle.directory.specs.Touch.{index_of, same_way, every_way}
 use Rattle.directory.specs.Sets.{empty_way, filled_way, worded_way, masked, has_tag, first_way}
-use Rattle.directory.specs.Dirs.{Dir, set_of, tag_of, line_of, place_of, emptied, put, touched, holds, found, installed, dropped_of, dropped, changed, twin_ways, twins}
+use Rattle.directory.specs.Dirs.{Dir, set_of, tag_of, line_of, place_of, emptied, put, touched, holds, found, installed, dropped_of, dropped, changed, twin_ways}
 use Rattle.directory.specs.Laws.{TagsAreApart, OneWayHoldsALine, OnlyMarksOfOneSet, InstallKeepsOtherLines, DropForgetsOneLine, ChangeMovesNoLine}
 use Rattle.directory.proofs.Touching.{index_injective}
 

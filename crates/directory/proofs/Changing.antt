@@ -1,5 +1,5 @@
 -- The directory once one of its sets is written, as the code writes it: i is the set's number as computed, s the set as left.
-use Rattle.std.proofs.Common.{◌≡◌, ℕ, ◌<◌, Bool, List, length, get_or, set, None, sym, refl, ap, ◌∙◌, subst}
+use Rattle.std.proofs.Common.{◌≡◌, ℕ, ◌<◌, Bool, List, length, get_or, set, None, sym, ap, ◌∙◌, subst}
 use Rattle.directory.specs.declared.marks.WayNumber.{WayNumber}
 use Rattle.directory.specs.declared.sets.SetRecord.{SetRecord}
 use Rattle.directory.specs.Touch.{index_of}
@@ -7,7 +7,7 @@ use Rattle.directory.specs.Sets.{no_way, no_set, empty_way, filled_way, worded_w
 use Rattle.directory.specs.Dirs.{Dir, set_of, tag_of, line_of, place_of, view_of, put, touched, installed, dropped, changed, found}
 use Rattle.directory.specs.Laws.{TagsAreApart, OnlyMarksOfOneSet, InstallKeepsOtherLines, DropForgetsOneLine, ChangeMovesNoLine}
 use Rattle.directory.proofs.Views.{view_touched, view_put, view_installed, put_worded}
-use Rattle.directory.proofs.Apart.{apart_installed, apart_dropped, apart_changed, only_marks, install_keeps, drop_forgets, change_moves_none}
+use Rattle.directory.proofs.Apart.{only_marks, install_keeps, drop_forgets, change_moves_none}
 
 module _ (sets : List SetRecord) (i : ℕ) (k : WayNumber) (s : SetRecord) (h : i < length sets) where
   module _ (line : ℕ) (e : i ≡ set_of line) where

@@ -1,11 +1,11 @@
 -- Looking through the ways of a set.
-use Rattle.std.proofs.Common.{◌≡◌, ℕ, ◌+◌, ◌<◌, ◌≤◌, Bool, true, false, cond, List, [], ◌∷◌, length, get_or, take, drop, Some, None, count_by, Option, sym, refl, ap, ◌∙◌, ap₂, add-one, arith}
+use Rattle.std.proofs.Common.{◌≡◌, ℕ, ◌+◌, ◌<◌, ◌≤◌, Bool, true, false, cond, List, length, get_or, take, drop, Some, None, count_by, Option, sym, refl, ap, ◌∙◌, ap₂, add-one}
 use mir.Val.{bool_byte}
 use Rattle.std.proofs.lemmas.List.{drop_more, drop_all, take_all}
 use Rattle.std.proofs.lemmas.List.Sums.{sum_by_more}
 use Rattle.std.proofs.lemmas.Bool.{cond-true, cond-false}
 use Rattle.directory.specs.declared.marks.WayNumber.{WayNumber}
-use Rattle.directory.specs.declared.marks.WayNumber.TheVariants.{Zero, One, Two, Three}
+use Rattle.directory.specs.declared.marks.WayNumber.TheVariants.{Zero}
 use Rattle.directory.specs.declared.sets.Way.{Way}
 use Rattle.directory.specs.declared.sets.SetRecord.{SetRecord}
 use Rattle.directory.specs.Touch.{every_way}

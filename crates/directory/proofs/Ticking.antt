@@ -1,6 +1,6 @@
 -- Ticks and places: facts of small numbers, by one computed test each.
-use Rattle.std.proofs.Common.{◌≡◌, ℕ, zero, suc, ◌+◌, ◌*◌, ◌/◌, ◌%◌, ◌^◌, ◌<◌, ◌≤◌, Bool, true, false, cond, not, ◌&&◌, ◌||◌, eqb, ltb, ◌≢◌, List, length, get_or, set, Some, None, sym, refl, ap, ◌∙◌, subst, ap₂, inl, inr, add-one, arith, length-set}
-use lib.Bits.{bit_or, bit_xor}
+use Rattle.std.proofs.Common.{◌≡◌, ℕ, suc, ◌+◌, ◌*◌, ◌%◌, ◌^◌, ◌<◌, Bool, true, false, cond, not, ◌&&◌, ◌||◌, eqb, ltb, ◌≢◌, get_or, set, Some, None, sym, refl, ap, ◌∙◌, subst, ap₂, inl, inr, add-one, arith, length-set}
+use lib.Bits.{bit_or}
 use lib.Count.{ones, ones_in}
 use Rattle.std.proofs.lemmas.Nat.{one_shl, div-mul-add, mod-mul-add}
 use Rattle.std.proofs.lemmas.List.{get_or-set_same, get_or-set_other}

@@ -1,11 +1,11 @@
 -- The touch table against its rule, by one computed test over the whole table.
-use Rattle.std.proofs.Common.{◌≡◌, ℕ, zero, suc, ◌/◌, ◌%◌, ◌<◌, Bool, true, false, cond, not, ◌&&◌, eqb, ◌≢◌, List, [], ◌∷◌, get_or, sym, refl, ap, ◌∙◌, arith}
+use Rattle.std.proofs.Common.{◌≡◌, ℕ, zero, suc, ◌/◌, ◌%◌, ◌<◌, Bool, true, false, cond, not, ◌&&◌, eqb, ◌≢◌, List, [], get_or, sym, refl, ap, ◌∙◌, arith}
 use Rattle.std.proofs.lemmas.Bool.Decides.{Decides-below_and}
 use Rattle.std.proofs.lemmas.Bool.{and_parts, eqb-false}
 use Rattle.directory.specs.declared.marks.Marks.{Marks}
 use Rattle.directory.specs.declared.marks.WayNumber.{WayNumber}
 use Rattle.directory.specs.declared.marks.WayNumber.TheVariants.{Zero, One, Two, Three}
-use Rattle.directory.specs.Touch.{index_of, same_way, number_of, no_marks, touched_marks, victim_of}
+use Rattle.directory.specs.Touch.{index_of, same_way, number_of, no_marks, touched_marks}
 use Rattle.directory.specs.Laws.{TouchedWayIsSpared}
 
 -- the test p passes at each number below n

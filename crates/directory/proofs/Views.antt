@@ -1,5 +1,5 @@
 -- A set is written: what can be asked of the directory afterwards.
-use Rattle.std.proofs.Common.{◌≡◌, ℕ, ◌<◌, ◌≤◌, Bool, true, false, cond, ◌&&◌, eqb, ◌⊎◌, List, [], ◌∷◌, length, get_or, set, replicate, sym, refl, ap, ◌∙◌, subst, inl, inr, arith}
+use Rattle.std.proofs.Common.{◌≡◌, ℕ, ◌<◌, Bool, true, false, cond, ◌&&◌, eqb, List, length, get_or, set, replicate, sym, refl, ap, ◌∙◌, subst, inl, inr, arith}
 use Rattle.std.proofs.lemmas.List.{get_or-set_same, get_or-set_other, get_or-replicate, get_or_past}
 use Rattle.std.proofs.lemmas.Bool.{cases_eq, cases_lt, eqb-true, eq-eqb, ne_eqb, cond-true, cond-false}
 use Rattle.directory.specs.declared.marks.Marks.{Marks}
@@ -7,7 +7,7 @@ use Rattle.directory.specs.declared.marks.WayNumber.{WayNumber}
 use Rattle.directory.specs.declared.sets.Way.{Way}
 use Rattle.directory.specs.declared.sets.SetRecord.{SetRecord}
 use Rattle.directory.specs.Touch.{index_of, same_way, no_marks, touched_marks}
-use Rattle.directory.specs.Sets.{no_way, no_set, empty_way, empty_set, worded_way, invalid_way, masked, way_in, touched_set, put_set, installed_set}
+use Rattle.directory.specs.Sets.{no_way, no_set, empty_way, empty_set, worded_way, masked, way_in, touched_set, put_set, installed_set}
 use Rattle.directory.specs.Dirs.{Dir, view_of, emptied, put, touched}
 use Rattle.directory.proofs.Touching.{index_below}
 

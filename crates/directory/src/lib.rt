@@ -1,4 +1,6 @@
 //! The directory of the cache and its line buffer: plain tables, which know of no port.
+#![tactic(auto)]
+
 mod directory;
 mod fills;
 mod marks;

@@ -1,4 +1,6 @@
 //! A walk through the cache directory of a board: what stands in the ways of some sets.
+#![tactic(auto)]
+
 ghost use Rattle.std.specs.Prelude.{◌≡◌, IfOk};
 ghost use Rattle.cache.specs.Doing.{Sound};
 ghost use Rattle.directory_walk.specs.Walks.{told_of, Walked};

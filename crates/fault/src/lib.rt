@@ -1,4 +1,6 @@
 //! Why a call or a list was turned down, and where.
+#![tactic(auto)]
+
 ghost use Rattle.std.specs.Prelude.{◌≡◌, Some, decimal};
 ghost use Rattle.fault.specs.Numbers.{number_of};
 

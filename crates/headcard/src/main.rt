@@ -1,4 +1,6 @@
 //! Reads a call list from standard input, runs it on the card, and prints each answer.
+#![tactic(auto)]
+
 use card::{CardRun, Printed, Stop, card_words, run_card, stock_image, stock_lines};
 use std::alloc::AllocError;
 use std::io;

@@ -1,4 +1,6 @@
 //! The fault that this card is built to exclude: the display clears a digit while the cache fills its line.
+#![tactic(auto)]
+
 use banks::{Line, RamBank};
 use cache::Cache;
 use port::Port;

@@ -1,15 +1,14 @@
 -- What a call on one side does to a map of two.
-use Rattle.std.proofs.Common.{◌≡◌, ℕ, ◌+◌, ◌-◌, ◌/◌, ◌%◌, ◌<◌, ◌≤◌, Bool, true, false, cond, eqb, ltb, leb, List, [], ◌∷◌, length, Ok, Err, MatchBool, Result, sym, refl, ap, ◌∙◌, subst, arith, le-ltb, lt-ltb}
+use Rattle.std.proofs.Common.{◌≡◌, ℕ, ◌+◌, ◌-◌, ◌/◌, ◌%◌, ◌<◌, ◌≤◌, Bool, true, false, [], ◌∷◌, Ok, Err, MatchBool, Result, sym, refl, ap, ◌∙◌, subst, arith, le-ltb, lt-ltb}
 use Rattle.std.proofs.lemmas.Bool.Decides.{nat_tests}
 use Rattle.fault.specs.declared.Fault.{Fault}
 use Rattle.port.specs.declared.Write.{Write}
-use Rattle.port.specs.Memory.{Memory, State, line_of, stored, applied, seen, outside, posted, drained}
-use Rattle.port.specs.Meaning.{told, within, laned, Settles, Advances, read_answer, settled_answer, write_answer, ByAnswer, Kept}
+use Rattle.port.specs.Memory.{State, applied, seen, outside, posted, drained}
+use Rattle.port.specs.Meaning.{told, laned, Settles, Advances, read_answer, settled_answer, write_answer, ByAnswer, Kept}
 use Rattle.port.specs.Steps.{Step, reads, writes, outsides, Drains}
-use Rattle.port.proofs.Settling.{settles_none, settles_still, stored_at_once, accepted_at_once, written_drained, drained_still, kept_within}
-use Rattle.banks.specs.Sizes.{words_of_lines}
+use Rattle.port.proofs.Settling.{settles_none, settles_still, stored_at_once, written_drained, drained_still, kept_within}
 use Rattle.joined_map.specs.declared.JoinedMap.{JoinedMap}
-use Rattle.joined_map.specs.Joint.{side, joint_state, Still, shifted, lowered, Posted, ReadHigh, MapReads, MapWrites, MapOutside}
+use Rattle.joined_map.specs.Joint.{joint_state, Still, shifted, lowered, MapReads, MapWrites, MapOutside}
 
 pub when_yes : (b : Bool) (P Q : Type 0) → b ≡ true → P → MatchBool b P Q
 when_yes b P Q e p = subst (λ x. MatchBool x P Q) (sym e) p

@@ -1,8 +1,8 @@
 -- A map of two ports, the high one after the low one, as one port on which nothing waits.
-use Rattle.std.specs.Prelude.{◌≡◌, ℕ, ◌+◌, ◌-◌, ◌/◌, max, Bool, cond, List, [], Ok, Err, MatchBool, Result, nat_lt}
+use Rattle.std.specs.Prelude.{◌≡◌, ℕ, ◌+◌, ◌-◌, ◌/◌, max, cond, [], Ok, Err, MatchBool, Result, nat_lt}
 use Rattle.fault.specs.declared.Fault.{Fault}
 use Rattle.port.specs.declared.Write.{Write}
-use Rattle.port.specs.Memory.{Memory, State, floor_above}
+use Rattle.port.specs.Memory.{State, floor_above}
 use Rattle.port.specs.Steps.{Step, reads, writes, advances, outsides, snoops, flushes, Drains}
 use Rattle.joined_map.specs.declared.JoinedMap.{JoinedMap}
 use Rattle.banks.specs.Sizes.{words_of_lines}

@@ -1,4 +1,6 @@
 //! A map that puts one port after another.
+#![tactic(auto)]
+
 ghost use Rattle.std.specs.Prelude.{◌≡◌, ◌+◌, ◌/◌, ◌^◌, ◌<◌, IfErr};
 ghost use Rattle.port.specs.Memory.{drained};
 ghost use Rattle.port.specs.Steps.{Drains};

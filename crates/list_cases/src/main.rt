@@ -1,4 +1,6 @@
 //! Tries call lists of every kind, length and fault, and prints what each is read as.
+#![tactic(auto)]
+
 use calls::{ListError, Reader, read_list};
 use std::alloc::AllocError;
 use std::io;

@@ -1,4 +1,6 @@
 //! Tries piles of stages in every order: calls that fall between two words of one fill, on two boards side by side.
+#![tactic(auto)]
+
 use banks::{Line, RamBank};
 use board::compare;
 use cache::Cache;

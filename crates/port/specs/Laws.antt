@@ -1,7 +1,7 @@
 -- The laws of settling that every stage rests on.
 use Rattle.std.specs.Prelude.{◌≡◌, List, []}
 use Rattle.port.specs.declared.Write.{Write}
-use Rattle.port.specs.Memory.{State, Memory, seen, posted, drained}
+use Rattle.port.specs.Memory.{State, seen, posted, drained}
 use Rattle.port.specs.Meaning.{Settles}
 
 pub record SettlingIsLawful : Type 0 where

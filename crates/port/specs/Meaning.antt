@@ -1,10 +1,10 @@
 -- What each call of a port answers, and what it does to the port's state.
-use Rattle.std.specs.Prelude.{◌≡◌, ℕ, ◌/◌, ◌<◌, min, Bool, true, false, cond, ◌&&◌, List, [], ◌∷◌, ◌++◌, length, Ok, Err, Result, nat_le, nat_lt}
+use Rattle.std.specs.Prelude.{◌≡◌, ℕ, ◌/◌, ◌<◌, min, Bool, cond, ◌&&◌, List, ◌++◌, length, Ok, Err, Result, nat_le, nat_lt}
 use Rattle.fault.specs.declared.Fault.{Fault}
 use Rattle.fault.specs.declared.Refusal.{Refusal}
 use Rattle.fault.specs.declared.Refusal.TheVariants.{PastEnd, BadLanes, Unreadable, Locked, Granted, NotLocked, NotGranted, UnfitSize, ListLength, ListWord}
 use Rattle.port.specs.declared.Write.{Write}
-use Rattle.port.specs.Memory.{Memory, Facts, State, seen, posted, settling, outside}
+use Rattle.port.specs.Memory.{Memory, Facts, State, seen, settling}
 
 -- Refusals: past the end and lanes bear the floor of the port that was called, an unreadable word bears floor 0.
 abbrev pub past_end : ℕ → ℕ → Fault

@@ -1,4 +1,6 @@
 //! One memory port: what every port means, and what the stages above it may rest on.
+#![tactic(auto)]
+
 ghost use Rattle.std.specs.Prelude.{◌≡◌, ℕ, ◌%◌, ◌≤◌, [], ◌∷◌};
 ghost use Rattle.port.specs.Lanes.{joined};
 ghost use Rattle.port.specs.Memory.{State, seen, posted, drained, outside};

@@ -1,4 +1,6 @@
 //! The lines that the program prints.
+#![tactic(auto)]
+
 ghost use Rattle.std.specs.Prelude.{◌≡◌, ◌<◌, IfOk, Some, string_bytes};
 ghost use Rattle.printed.specs.Texts.{hex_digit, hex_word, outcome_text, whole_of, text_of};
 

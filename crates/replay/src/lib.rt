@@ -1,4 +1,6 @@
 //! The incident: the display clears a digit while the cache fills its line. Its calls, and the rows that the processor reads.
+#![tactic(auto)]
+
 ghost use Rattle.std.specs.Prelude.{◌≡◌, IfOk};
 ghost use Rattle.replay.specs.Rows.{word_at, row_at};
 ghost use Rattle.replay.specs.Incident.{incident_calls, RowStands, AnsweredByTheBook, RowsAreTheAnswers, ReadsTheNewestRow};

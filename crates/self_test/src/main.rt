@@ -1,4 +1,6 @@
 //! Tests the cache directory as the old program did when it started: flushes, fills some lines, and reads back what stands in the ways.
+#![tactic(auto)]
+
 use banks::{EpromBank, RamBank};
 use board::run;
 use cache::Cache;

@@ -1,4 +1,4 @@
-use Rattle.std.proofs.Common.{◌/◌, ◌^◌, ◌<◌}
+use Rattle.std.proofs.Common.{◌/◌, ◌^◌}
 use Rattle.std.proofs.lemmas.Nat.{and_mask, one_shl}
 use Rattle.calls.proofs.reader.bits.Goals as goal
 

@@ -1,4 +1,4 @@
-use Rattle.std.proofs.Common.{◌≡◌, ◌≤◌, Err, sym, ap, ◌∙◌, arith}
+use Rattle.std.proofs.Common.{◌≤◌, Err, sym, ap, ◌∙◌, arith}
 use Rattle.calls.specs.Format.{kind_of}
 use Rattle.calls.proofs.reader.call.Goals as goal
 use Rattle.calls.proofs.Reading.{no_kind}

@@ -1,4 +1,4 @@
-use Rattle.std.proofs.Common.{◌≡◌, Some, sym, ap, ◌∙◌, arith}
+use Rattle.std.proofs.Common.{Some, sym, ap, ◌∙◌, arith}
 use Rattle.calls.proofs.reader.word_at.Goals as goal
 use Rattle.calls.proofs.Reading.{word_there, word_past}
 

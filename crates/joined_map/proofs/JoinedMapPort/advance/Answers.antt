@@ -1,4 +1,3 @@
-use Rattle.std.proofs.Common.{◌≡◌}
 use Rattle.port.proofs.Settling.{settles_still}
 use Rattle.joined_map.proofs.Joints.{joint_advances, still_same}
 use Rattle.joined_map.proofs.JoinedMapPort.advance.Goals as goal

@@ -1,4 +1,4 @@
-use Rattle.std.proofs.Common.{◌≡◌, ◌%◌, ◌<◌, Ok, sym, arith}
+use Rattle.std.proofs.Common.{◌≡◌, ◌%◌, Ok, arith}
 use Rattle.std.proofs.lemmas.Bool.Decides.{nat_tests}
 use Rattle.port.specs.Meaning.{writing, write_answer}
 use Rattle.joined_map.specs.Joint.{joint_state}

@@ -1,4 +1,4 @@
-use Rattle.std.proofs.Common.{◌≡◌, ◌%◌, ◌<◌, Ok, ap, subst, arith}
+use Rattle.std.proofs.Common.{◌≡◌, ◌%◌, Ok, subst, arith}
 use Rattle.std.proofs.lemmas.Bool.Decides.{nat_tests}
 use Rattle.port.specs.Meaning.{writing, write_answer}
 use Rattle.port.specs.Memory.{drained}

@@ -1,4 +1,4 @@
-use Rattle.std.proofs.Common.{◌≡◌, refl, arith, rules}
+use Rattle.std.proofs.Common.{refl, arith, rules}
 use Rattle.port.specs.Meaning.{writing}
 use Rattle.banks.proofs.Records.{changed_state, changed_records}
 use Rattle.banks.proofs.ram.RamBankPort.outside_write.Goals as goal

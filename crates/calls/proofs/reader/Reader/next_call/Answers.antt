@@ -1,4 +1,4 @@
-use Rattle.std.proofs.Common.{◌≡◌, length, sym, refl, arith}
+use Rattle.std.proofs.Common.{length, sym, refl, arith}
 use Rattle.std.proofs.lemmas.Result.{err_from_is_err_and}
 use Rattle.calls.proofs.reader.Reader.next_call.Goals as goal
 use Rattle.calls.proofs.Reading.{next_there, fit_below, size_bounds}

@@ -1,4 +1,4 @@
-use Rattle.std.proofs.Common.{refl, rules}
+use Rattle.std.proofs.Common.{rules}
 use Rattle.directory.proofs.Touching.{by_table, touched_way_is_spared}
 use Rattle.directory.proofs.marks.Marks.touched.Goals as goal
 
