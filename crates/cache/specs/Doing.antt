@@ -1,15 +1,15 @@
 -- What a cache means, and what its calls do: to its tables, and by which calls to the port below.
-use Rattle.std.specs.Prelude.{◌≡◌, ℕ, Ok, Err, Result}
+use Rattle.std.specs.Prelude.{◌≡◌, ℕ, [], ◌∷◌, Ok, Err, Result}
 use Rattle.fault.specs.declared.Fault.{Fault}
 use Rattle.port.specs.Memory.{State}
 use Rattle.port.specs.Meaning.{past_end, within, ByAnswer}
 use Rattle.port.specs.Steps.{Step, reads, writes, advances, outsides, snoops, flushes, Chain}
 use Rattle.directory.specs.declared.directory.questions.WayState.{WayState}
-use Rattle.directory.specs.Dirs.{Dir}
+use Rattle.directory.specs.Dirs.{Dir, line_of}
 use Rattle.directory.specs.View.{inspected}
 use Rattle.cache.specs.declared.cache.Cache.{Cache}
 use Rattle.cache_tables.specs.Showing.{Shown, shown}
-use Rattle.cache_tables.specs.Rules.{Model, Turn, model, if_some, read_turn, write_turn, advance_turn, snoop_turn, outside_turn, flush_turn}
+use Rattle.cache_tables.specs.Rules.{Model, Turn, model, turn, if_some, cleared, dropped, read_turn, write_turn, advance_turn}
 use Rattle.cache_tables.specs.Coherence.{Coherent}
 
 -- What the port below shows, and the tables.
@@ -39,6 +39,6 @@ Does state does b (reads w r) c =
     ByAnswer (within w (state b.below).facts.words (state b.below).facts.floor) (TakesTurn does (read_turn (shows_below state b) (tables_of b) w) b c) (c ≡ b)
 Does state does b (writes w r) c = ByAnswer r (TakesTurn does (write_turn (shows_below state b) (tables_of b) w r) b c) (c ≡ b)
 Does state does b advances c = TakesTurn does (advance_turn (shows_below state b) (tables_of b)) b c
-Does state does b (outsides w r) c = ByAnswer r (TakesTurn does (outside_turn (tables_of b) w r) b c) (c ≡ b)
-Does state does b (snoops w r) c = ByAnswer r (TakesTurn does (snoop_turn (tables_of b) w r) b c) (c ≡ b)
-Does state does b flushes c = TakesTurn does flush_turn b c
+Does state does b (outsides w r) c = ByAnswer r (TakesTurn does (turn (dropped (tables_of b) (line_of w.word)) (outsides w r ∷ [])) b c) (c ≡ b)
+Does state does b (snoops w r) c = ByAnswer r (TakesTurn does (turn (dropped (tables_of b) (line_of w)) (snoops w r ∷ [])) b c) (c ≡ b)
+Does state does b flushes c = TakesTurn does (turn cleared (flushes ∷ [])) b c
