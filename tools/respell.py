@@ -20,6 +20,9 @@ OPERATIONS = {"append", "length", "drop", "take"}
 # fields that would fall together with a definition
 FIELDS = {"last-reading": "from_last_reading", "ways-named": "ways_are_named", "ways-taken": "ways_are_taken"}
 
+# parameters, and names given at an import
+OTHERS = ("lowState", "lowDoes", "highState", "highDoes", "droppedDir", "queueWith")
+
 
 def tracked(*patterns):
     out = subprocess.run(["git", "ls-files", "-z", "--", *patterns], capture_output=True, check=True).stdout
@@ -106,6 +109,7 @@ def main():
     # a lemma that would have its definition's name
     table.update({n: s + "_lem" for n, s in table.items() if kinds[n] == {"lemma"} and s in words})
     table = {n: s for n, s in table.items() if n != s}
+    table.update({n: snake(n) for n in OTHERS})
     clash = sorted(f"{n} and {table[n]}" for n in table if table[n] in kinds and table[n] not in table)
     seen = collections.defaultdict(list)
     for n, s in table.items():
