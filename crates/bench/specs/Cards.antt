@@ -6,7 +6,7 @@ use Rattle.port.specs.Memory.{State, posted, outside}
 use Rattle.port.specs.Meaning.{read_answer, settled_answer, writing}
 use Rattle.port.specs.Steps.{Step, reads, writes}
 use Rattle.write_buffer.specs.Queues.{leaving, left}
-use Rattle.write_buffer.specs.Queues.{joined as queueWith}
+use Rattle.write_buffer.specs.Queues.{joined as queue_with}
 use Rattle.write_buffer.specs.Buffering.{sends}
 use Rattle.directory.specs.declared.marks.WayNumber.{WayNumber}
 use Rattle.directory.specs.declared.marks.WayNumber.TheVariants.{Zero, One, Two, Three}
@@ -71,11 +71,11 @@ gets content word = reads word (Ok (content word))
 -- Writes join a queue one after another: the queue in the end, and the calls below on the way.
 abbrev pub queued_all : List Write → List Write → List Write
 queued_all queue [] = queue
-queued_all queue (w ∷ ws) = queued_all (queueWith w queue) ws
+queued_all queue (w ∷ ws) = queued_all (queue_with w queue) ws
 
 abbrev pub sent_all : List Write → List Write → List Step
 sent_all queue [] = []
-sent_all queue (w ∷ ws) = sends (left (leaving queue)) ++ sent_all (queueWith w queue) ws
+sent_all queue (w ∷ ws) = sends (left (leaving queue)) ++ sent_all (queue_with w queue) ws
 
 -- A line of memory in which this value is settled at every word, and nothing waits.
 abbrev pub settled_at : ℕ → State

@@ -11,7 +11,7 @@ use Rattle.directory.specs.declared.fills.Fill.{Fill}
 use Rattle.directory.specs.Touch.{index_of, same_way}
 use Rattle.directory.specs.Sets.{empty_way, worded_way}
 use Rattle.directory.specs.Dirs.{Dir, line_of, place_of, set_of, tag_of, touched, holds, found, changed, dropped_of}
-use Rattle.directory.specs.Dirs.{dropped as droppedDir}
+use Rattle.directory.specs.Dirs.{dropped as dropped_dir}
 use Rattle.directory.specs.Ticks.{ticked, fetched_word}
 use Rattle.directory.specs.Laws.{TagsAreApart}
 use Rattle.directory.proofs.Apart.{held, finds, apart_emptied, drop_forgets, apart_dropped, apart_changed, change_moves_none}
@@ -68,7 +68,7 @@ module _ (v : Shown) (t : Model) (l : ℕ) (c : Coherent v t) where
     lined = c.lined;
     ways = ways_dropped (found t.dir l);
     apart = tags_dropped (found t.dir l);
-    fill = left_fill v t.dir (droppedDir t.dir l) l t.fill (drop_forgets t.dir l c.apart).others c.fill;
+    fill = left_fill v t.dir (dropped_dir t.dir l) l t.fill (drop_forgets t.dir l c.apart).others c.fill;
   }
 
   -- and no valid way has it

@@ -57,12 +57,12 @@ pub record ReadHigh {P : Type 0} (does : P → Step → P → Type 0) (by : ℕ)
   pub reads : does p (reads (w - by) answer) q
 
 -- By which calls on its two sides a map does each of its own.
-module _ {L H : Type 0} (lowState : L → State) (lowDoes : L → Step → L → Type 0) (highState : H → State) (highDoes : H → Step → H → Type 0) where
+module _ {L H : Type 0} (low_state : L → State) (low_does : L → Step → L → Type 0) (high_state : H → State) (high_does : H → Step → H → Type 0) where
   abbrev pub split : JoinedMap L H → ℕ
-  split b = (lowState b.low).facts.words
+  split b = (low_state b.low).facts.words
 
   abbrev pub end : JoinedMap L H → ℕ
-  end b = (joint_state (lowState b.low) (highState b.high)).facts.words
+  end b = (joint_state (low_state b.low) (high_state b.high)).facts.words
 
   -- A call with a word goes to the side that has the word, and leaves the other as it is.
   abbrev pub ToSide : JoinedMap L H → ℕ → (L → Type 0) → (H → Type 0) → JoinedMap L H → Type 0
@@ -71,30 +71,30 @@ module _ {L H : Type 0} (lowState : L → State) (lowDoes : L → Step → L →
   abbrev pub MapReads : JoinedMap L H → ℕ → Result ℕ Fault → JoinedMap L H → Type 0
   MapReads b w r c =
       MatchBool (nat_lt w (end b))
-      (ToSide b w (lowDoes b.low (reads w r)) (ReadHigh highDoes (split b) b.high w r) c)
+      (ToSide b w (low_does b.low (reads w r)) (ReadHigh high_does (split b) b.high w r) c)
       (c ≡ b)
 
   -- After a write both sides are advanced until nothing waits there.
   abbrev pub MapWrites : JoinedMap L H → Write → Result (Unit {0}) Fault → JoinedMap L H → Type 0
   MapWrites b w (Ok _) c =
       MatchBool (nat_lt w.word (split b))
-      (Posted lowState lowDoes b.low w c.low × Drains highState highDoes b.high c.high)
-      (Drains lowState lowDoes b.low c.low × Posted highState highDoes b.high (lowered (split b) w) c.high)
+      (Posted low_state low_does b.low w c.low × Drains high_state high_does b.high c.high)
+      (Drains low_state low_does b.low c.low × Posted high_state high_does b.high (lowered (split b) w) c.high)
   MapWrites b w (Err _) c = c ≡ b
 
   abbrev pub MapOutside : JoinedMap L H → Write → Result (Unit {0}) Fault → JoinedMap L H → Type 0
-  MapOutside b w (Ok _) c = ToSide b w.word (lowDoes b.low (outsides w (Ok tt))) (highDoes b.high (outsides (lowered (split b) w) (Ok tt))) c
+  MapOutside b w (Ok _) c = ToSide b w.word (low_does b.low (outsides w (Ok tt))) (high_does b.high (outsides (lowered (split b) w) (Ok tt))) c
   MapOutside b w (Err _) c = c ≡ b
 
   abbrev pub MapSnoops : JoinedMap L H → ℕ → Result (Unit {0}) Fault → JoinedMap L H → Type 0
-  MapSnoops b w (Ok _) c = ToSide b w (lowDoes b.low (snoops w (Ok tt))) (highDoes b.high (snoops (w - split b) (Ok tt))) c
+  MapSnoops b w (Ok _) c = ToSide b w (low_does b.low (snoops w (Ok tt))) (high_does b.high (snoops (w - split b) (Ok tt))) c
   MapSnoops b w (Err _) c = c ≡ b
 
   -- Advance and flush go to both sides.
   abbrev pub MapDoes : JoinedMap L H → Step → JoinedMap L H → Type 0
   MapDoes b (reads w r) c = MapReads b w r c
   MapDoes b (writes w r) c = MapWrites b w r c
-  MapDoes b advances c = lowDoes b.low advances c.low × highDoes b.high advances c.high
+  MapDoes b advances c = low_does b.low advances c.low × high_does b.high advances c.high
   MapDoes b (outsides w r) c = MapOutside b w r c
   MapDoes b (snoops w r) c = MapSnoops b w r c
-  MapDoes b flushes c = lowDoes b.low flushes c.low × highDoes b.high flushes c.high
+  MapDoes b flushes c = low_does b.low flushes c.low × high_does b.high flushes c.high
