@@ -4,7 +4,7 @@ use Rattle.std.proofs.lemmas.Bool.Decides.{nat_tests}
 use Rattle.fault.specs.declared.Fault.{Fault}
 use Rattle.port.specs.declared.Write.{Write}
 use Rattle.port.specs.Memory.{State, applied, seen, outside, posted, drained}
-use Rattle.port.specs.Meaning.{told, laned, Settles, Advances, read_answer, settled_answer, write_answer, ByAnswer, Kept}
+use Rattle.port.specs.Meaning.{told, laned, Settles, read_answer, settled_answer, write_answer, ByAnswer, Kept}
 use Rattle.port.specs.Steps.{Step, reads, writes, outsides, Drains}
 use Rattle.port.proofs.Settling.{settles_none, settles_still, stored_at_once, written_drained, drained_still, kept_within}
 use Rattle.joined_map.specs.declared.JoinedMap.{JoinedMap}
@@ -19,9 +19,6 @@ when_no b P Q e q = subst (λ x. MatchBool x P Q) (sym e) q
 -- sides that are as they were
 pub joint_settles : (a b a' b' : State) → a' ≡ a → b' ≡ b → Settles (joint_state a b) (joint_state a' b')
 joint_settles a b a' b' ea eb = subst (λ x. Settles (joint_state a b) (joint_state x b')) (sym ea) (subst (λ x. Settles (joint_state a b) (joint_state a x)) (sym eb) (settles_none (joint_state a b)))
-
-pub joint_advances : (a b a' b' : State) → a' ≡ a → b' ≡ b → Advances (joint_state a b) (joint_state a' b')
-joint_advances a b a' b' ea eb = record { settles = joint_settles a b a' b' ea eb; some = λ h. absurd (omega arith) }
 
 pub still_same : (a b a' b' : State) → Still a b → a' ≡ a → b' ≡ b → Still a' b'
 still_same a b a' b' still ea eb = record { low = ap (λ (s : State). s.waiting) ea ∙ still.low; high = ap (λ (s : State). s.waiting) eb ∙ still.high }
@@ -74,6 +71,14 @@ module _ (a b : State) (lined : a.facts.words % 8 ≡ 0) where
 
   pub outside_high_is : (b' : State) (w : Write) → a.facts.words ≤ w.word → b' ≡ outside (lowered a.facts.words w) b → joint_state a b' ≡ outside w (joint_state a b)
   outside_high_is b' w h e = ap (joint_state a) e ∙ outside_high w h
+
+-- what a write from outside to the low side leaves of the whole map, by the answer of that side
+pub low_left : (a b : State) (w : Write) → a.facts.words % 8 ≡ 0 → w.word < a.facts.words → Ok tt ≡ write_answer (joint_state a b) w →
+    (a' : State) (r : Result (Unit {0}) Fault) (P Q : Type 0) → r ≡ write_answer a w → ByAnswer r (a' ≡ outside w a) P → ByAnswer r (joint_state a' b ≡ outside w (joint_state a b)) Q
+low_left a b w lined h taken a' (Ok _) P Q value after = outside_low_is a b lined a' w h after
+low_left a b w lined h taken a' (Err f) P Q value after =
+    let accepted : write_answer a w ≡ Ok tt = grind (arith, nat_tests) in
+    let z : ◌≡◌ {A = ℕ} 0 1 = cc in absurd (omega arith)
 
 unshifted : (n : ℕ) (q : Result (Unit {0}) Fault) → Ok tt ≡ shifted n q → q ≡ Ok tt
 unshifted n (Ok _) e = refl
@@ -158,17 +163,6 @@ module _ {L H : Type 0} (ls : L → State) (ld : L → Step → L → Type 0) (h
 
     outside_done : (k : JoinedMap L H) → Still (ls k.low) (hs k.high) → state k ≡ outside w (state j) → MapOutside ls ld hs hd j w (Ok tt) k → (r : Result (Unit {0}) Fault) → Ok tt ≡ r → OutsideDone w r k
     outside_done k rests after did r e = subst (λ x. OutsideDone w x k) e (record { rests = rests; value = accepted; after = after; did = did })
-
-    pub low_outside : (low' : L) (r : Result (Unit {0}) Fault) → w.word < (ls j.low).facts.words → r ≡ write_answer (ls j.low) w →
-        ByAnswer r (ls low' ≡ outside w (ls j.low)) (low' ≡ j.low) → ld j.low (outsides w r) low' → OutsideDone w r (record { low = low'; high = j.high })
-    low_outside low' r h value after did =
-        let ok : r ≡ Ok tt = value ∙ low_takes h in
-        let now : ls low' ≡ outside w (ls j.low) = subst (λ x. ByAnswer x (ls low' ≡ outside w (ls j.low)) (low' ≡ j.low)) ok after in
-        outside_done (record { low = low'; high = j.high })
-        (record { low = ap (λ (x : State). x.waiting) now ∙ still.low; high = still.high })
-        (outside_low_is (ls j.low) (hs j.high) lined (ls low') w h now)
-        (when_yes _ _ _ (lt-ltb _ _ h) (subst (λ x. ld j.low (outsides w x) low') ok did, refl))
-        r (sym ok)
 
     pub high_outside : (high' : H) (q r : Result (Unit {0}) Fault) (n : ℕ) → n ≡ (ls j.low).facts.words → n ≤ w.word →
         q ≡ write_answer (hs j.high) (lowered n w) → ByAnswer q (hs high' ≡ outside (lowered n w) (hs j.high)) (high' ≡ j.high) →

@@ -1,19 +1,18 @@
-use Rattle.std.proofs.Common.{◌≡◌, ◌%◌, Ok, arith}
+use Rattle.std.proofs.Common.{◌≡◌, ◌%◌, ◌<◌, Ok, arith, rules}
 use Rattle.std.proofs.lemmas.Bool.Decides.{nat_tests}
 use Rattle.port.specs.Meaning.{writing, write_answer}
 use Rattle.joined_map.specs.Joint.{joint_state}
-use Rattle.joined_map.proofs.Joints.{low_outside, high_outside}
+use Rattle.joined_map.proofs.Joints.{low_left, high_outside}
 use Rattle.joined_map.proofs.JoinedMapPort.outside_write.Goals as goal
 
-pub returns-then-word-split : goal.returns-then-word-split
-returns-then-word-split g c =
+pub returns-then-word-split-clause-after : goal.returns-then-word-split-clause-after
+returns-then-word-split-clause-after g c =
     let j = c.args.self.now in
     let w = writing c.args.word c.args.lanes c.args.value in
     let taken : Ok tt ≡ write_answer (joint_state (g.L.Port.state j.low) (g.H.Port.state j.high)) w = grind (arith, nat_tests) in
     let lined : (g.L.Port.state j.low).facts.words % 8 ≡ 0 = omega arith in
-    let d = low_outside g.L.Port.state g.L.Port.does g.H.Port.state g.H.Port.does j c.requires.2 lined w taken
-    c.outside_write.new.self c.outside_write.result (omega arith) c.outside_write.ensures.value c.outside_write.ensures.after c.outside_write.ensures.did in
-    record { sound = (c.outside_write.ensures.sound, c.requires.1, d.rests); value = d.value; after = d.after; did = d.did }
+    let low : c.args.word < (g.L.Port.state j.low).facts.words = omega arith in
+    search (rules, low_left (g.L.Port.state j.low) (g.H.Port.state j.high) w lined low taken)
 
 pub returns : goal.returns
 returns g c =
