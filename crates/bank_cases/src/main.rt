@@ -4,19 +4,13 @@
 use banks::{EpromBank, Line, RamBank, eprom_size, ram_size};
 use fault::Fault;
 use joined_map::{JoinedMap, map_size};
-use port::Port;
+use port::{Port, Store};
 use std::alloc::{AllocError, Global};
 use std::io;
 
 // Zeroed RAM of that many lines, with word 37 unreadable.
-fn make_ram(heap: Global, lines: usize) -> Result<Vec<Line>, AllocError> {
-    let zero = Line {
-        words: [0; 8],
-        cacheable: true,
-        protect: false,
-        readable: [true; 8],
-    };
-    let mut records = vec![in heap; zero; lines]?;
+fn make_ram(alloc: Global, lines: usize) -> Result<Vec<Line>, AllocError> {
+    let mut records = vec![in alloc; Line::ZEROED; lines]?;
     if let Some(line) = records.get_mut(37 / 8) {
         line.readable[37 % 8] = false;
     }
@@ -24,38 +18,37 @@ fn make_ram(heap: Global, lines: usize) -> Result<Vec<Line>, AllocError> {
 }
 
 // An image of that many bytes, the last of them 12 and the one before it 34 in hexadecimal.
-fn make_eprom(heap: Global, length: usize) -> Result<Vec<u8>, AllocError> {
-    let mut bytes = vec![in heap; 0u8; length]?;
-    if length >= 2 {
-        if let Some(byte) = bytes.get_mut(length - 2) {
-            *byte = 0x34;
-        }
-        if let Some(byte) = bytes.get_mut(length - 1) {
-            *byte = 0x12;
-        }
+fn make_eprom(alloc: Global, length: usize) -> Result<Vec<u8>, AllocError> {
+    let mut bytes = vec![in alloc; 0u8; length]?;
+    if let [.., low, high] = bytes.as_mut_slice() {
+        *low = 0x34;
+        *high = 0x12;
     }
     Ok(bytes)
 }
 
-fn print_fault(rt: &HostRuntime, what: &str, fault: Fault) -> io::Result<()> {
-    let refusal = fault.refusal;
-    let place = fault.place;
-    let floor = fault.floor;
-    println!(rt; "  {what}: refused {refusal} at {place} floor {floor}")
+// Prints what was asked, and then what it gave as `show` prints it, or why it was refused.
+fn print_answer<T: Drop, F: FnOnce(T) -> io::Result<()> + Drop>(
+    rt: &HostRuntime,
+    what: &str,
+    answer: Result<T, Fault>,
+    show: F,
+) -> io::Result<()>
+    requires { F.IsAlwaysCallable show }
+{
+    print!(rt; "  {what}: ")?;
+    match answer {
+        Ok(value) => show(value),
+        Err(fault) => println!(rt; "{fault}"),
+    }
 }
 
 fn print_word(rt: &HostRuntime, what: &str, answer: Result<u16, Fault>) -> io::Result<()> {
-    match answer {
-        Ok(value) => println!(rt; "  {what}: {value:04X}"),
-        Err(fault) => print_fault(rt, what, fault),
-    }
+    print_answer(rt, what, answer, |value| println!(rt; "{value:04X}"))
 }
 
 fn print_done(rt: &HostRuntime, what: &str, answer: Result<(), Fault>) -> io::Result<()> {
-    match answer {
-        Ok(()) => println!(rt; "  {what}: ok"),
-        Err(fault) => print_fault(rt, what, fault),
-    }
+    print_answer(rt, what, answer, |()| println!(rt; "ok"))
 }
 
 fn print_marks(
@@ -63,61 +56,66 @@ fn print_marks(
     what: &str,
     answer: Result<(bool, bool), Fault>,
 ) -> io::Result<()> {
-    match answer {
-        Ok((cacheable, protect)) => println!(rt;
-            "  {what}: cacheable {cacheable} protected {protect}"
-        ),
-        Err(fault) => print_fault(rt, what, fault),
-    }
+    print_answer(rt, what, answer, |(cacheable, protect)| {
+        println!(rt; "cacheable {cacheable} protected {protect}")
+    })
 }
 
 fn print_size(rt: &HostRuntime, what: &str, answer: Result<u32, Fault>) -> io::Result<()> {
-    match answer {
-        Ok(words) => println!(rt; "  {what}: {words} words"),
-        Err(fault) => print_fault(rt, what, fault),
-    }
+    print_answer(rt, what, answer, |words| println!(rt; "{words} words"))
 }
 
 // Reads and writes about the end and by all lanes.
-fn try_words<P: Port>(rt: &HostRuntime, port: &mut P) -> io::Result<()>
-    requires { P.sound port.old }
-    ensures { P.sound port.new }
-{
+fn try_words<P: Port>(rt: &HostRuntime, port: &mut P) -> io::Result<()> {
     print_word(rt, "read 16895", port.read(16_895))?;
     print_word(rt, "read 16896", port.read(16_896))?;
     print_word(rt, "read 37", port.read(37))?;
     print_word(rt, "read 8037", port.read(8_037))?;
-    print_done(rt, "write 2 lanes 3 of 1234", port.write(2, 3, 0x1234))?;
-    print_done(rt, "write 2 lanes 1 of ABCD", port.write(2, 1, 0xabcd))?;
-    print_done(rt, "write 2 lanes 0", port.write(2, 0, 0))?;
-    print_done(rt, "write 2 lanes 4", port.write(2, 4, 0))?;
-    print_done(rt, "write 16896 lanes 4", port.write(16_896, 4, 0))?;
+    print_done(
+        rt,
+        "write 2 lanes 3 of 1234",
+        port.write(Store::new(2, 3, 0x1234)),
+    )?;
+    print_done(
+        rt,
+        "write 2 lanes 1 of ABCD",
+        port.write(Store::new(2, 1, 0xabcd)),
+    )?;
+    print_done(rt, "write 2 lanes 0", port.write(Store::new(2, 0, 0)))?;
+    print_done(rt, "write 2 lanes 4", port.write(Store::new(2, 4, 0)))?;
+    print_done(
+        rt,
+        "write 16896 lanes 4",
+        port.write(Store::new(16_896, 4, 0)),
+    )?;
     print_done(
         rt,
         "write 16894 lanes 3 of 5678",
-        port.write(16_894, 3, 0x5678),
+        port.write(Store::new(16_894, 3, 0x5678)),
     )?;
     print_word(rt, "read 2", port.read(2))?;
     print_word(rt, "read 16894", port.read(16_894))
 }
 
 // The other calls and questions.
-fn try_others<P: Port>(rt: &HostRuntime, port: &mut P) -> io::Result<()>
-    requires { P.sound port.old }
-{
+fn try_others<P: Port>(rt: &HostRuntime, port: &mut P) -> io::Result<()> {
     print_word(rt, "settled read 37", port.settled_read(37))?;
     print_word(rt, "settled read 16896", port.settled_read(16_896))?;
     print_done(
         rt,
         "outside write 3 lanes 2 of ABCD",
-        port.outside_write(3, 2, 0xabcd),
+        port.outside_write(Store::new(3, 2, 0xabcd)),
     )?;
     print_done(
         rt,
         "outside write 16896 lanes 3",
-        port.outside_write(16_896, 3, 0),
+        port.outside_write(Store::new(16_896, 3, 0)),
     )?;
-    print_done(rt, "outside write 3 lanes 4", port.outside_write(3, 4, 0))?;
+    print_done(
+        rt,
+        "outside write 3 lanes 4",
+        port.outside_write(Store::new(3, 4, 0)),
+    )?;
     print_word(rt, "settled read 3", port.settled_read(3))?;
     print_done(rt, "snoop 16895", port.snoop(16_895))?;
     print_done(rt, "snoop 16896", port.snoop(16_896))?;
@@ -130,9 +128,7 @@ fn try_others<P: Port>(rt: &HostRuntime, port: &mut P) -> io::Result<()>
     println!(rt; "  waiting: {waiting}")
 }
 
-fn try_port<P: Port>(rt: &HostRuntime, name: &str, port: &mut P) -> io::Result<()>
-    requires { P.sound port.old }
-{
+fn try_port<P: Port>(rt: &HostRuntime, name: &str, port: &mut P) -> io::Result<()> {
     let words = port.words();
     let floor = port.floor();
     println!(rt; "{name}: {words} words, floor {floor}")?;

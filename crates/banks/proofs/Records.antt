@@ -1,13 +1,13 @@
 -- What one changed record does to a RAM bank.
-use Rattle.std.proofs.Common.{◌≡◌, ℕ, ◌<◌, false, cond, List, [], length, get_or, set, sym, refl, ap, ◌∙◌, inl, inr, arith, length-set, get_or-set_other, get_or-set_same}
+use Rattle.std.proofs.Common.{◌≡◌, ℕ, ◌<◌, false, List, [], length, get_or, set, refl, ap, ◌∙◌, inl, inr, arith, length-set, get_or-set_other, get_or-set_same}
 use Rattle.std.proofs.lemmas.Bool.{cases_eq}
 use Rattle.std.proofs.lemmas.Bool.Decides.{nat_tests}
-use Rattle.port.specs.declared.Write.{Write}
+use Rattle.port.specs.declared.Store.{Store}
 use Rattle.port.specs.Lanes.{joined}
 use Rattle.port.specs.Memory.{line_of, stored, outside}
 use Rattle.banks.specs.declared.line.Line.{Line}
 use Rattle.banks.specs.Sizes.{words_of_lines}
-use Rattle.banks.specs.Lines.{blank, line_at, place_of, memory_of, changed, recorded}
+use Rattle.banks.specs.Lines.{blank, line_at, place_of, memory_of, changed}
 use Rattle.banks.specs.Ram.{ram_state}
 
 -- what a changed record shows as before
@@ -18,12 +18,12 @@ kept f ls i k l h e =
       | inr n ↦ ap f (get_or-set_other ls i k l blank n)
     ]
 
-module _ (ls : List Line) (w : Write) (fits : line_of w.word < length ls) (full : length (line_at ls (line_of w.word)).words ≡ 8) (free : (line_at ls (line_of w.word)).protect ≡ false) where
+module _ (ls : List Line) (w : Store) (fits : line_of w.word < length ls) (full : length (line_at ls (line_of w.word)).words ≡ 8) (free : (line_at ls (line_of w.word)).protect ≡ false) where
   abbrev line : ℕ
   line = line_of w.word
 
   abbrev new : Line
-  new = changed (line_at ls line) (place_of w.word) w.lanes w.value
+  new = changed (line_at ls line) w
 
   word_after : (a : ℕ) → (memory_of (set ls line new)).word a ≡ (stored (ram_state ls).protected w (memory_of ls)).word a
   word_after a =
@@ -44,6 +44,3 @@ module _ (ls : List Line) (w : Write) (fits : line_of w.word < length ls) (full 
 
   pub changed_state : (l : Line) → l ≡ new → ram_state (set ls line l) ≡ outside w (ram_state ls)
   changed_state l e = ap (λ x. ram_state (set ls line x)) e ∙ state_after
-
-  pub changed_records : (l : Line) → l ≡ new → set ls line l ≡ recorded w ls
-  changed_records l e = ap (set ls line) e ∙ sym (ap (λ b. cond b ls (set ls line new)) free)

@@ -1,6 +1,6 @@
 -- Line records, and what a write does to them.
 use Rattle.std.specs.Prelude.{ℕ, ◌%◌, false, cond, List, [], slice_index, slice_index_or, slice_set}
-use Rattle.port.specs.declared.Write.{Write}
+use Rattle.port.specs.declared.Store.{Store}
 use Rattle.port.specs.Lanes.{joined}
 use Rattle.port.specs.Memory.{Memory, line_of}
 use Rattle.banks.specs.declared.line.Line.{Line}
@@ -22,17 +22,17 @@ memory_of lines = record {
   readable = λ a. slice_index_or (line_at lines (line_of a)).readable (place_of a) false;
 }
 
--- The record with some lanes of one word changed.
-abbrev pub changed : Line → ℕ → ℕ → ℕ → Line
-changed line place lanes value = record {
-  words = slice_set line.words place (joined lanes (slice_index line.words place) value);
+-- The record with the lanes of a write changed in its word.
+abbrev pub changed : Line → Store → Line
+changed line w = record {
+  words = slice_set line.words (place_of w.word) (joined w.lanes (slice_index line.words (place_of w.word)) w.value);
   cacheable = line.cacheable;
   protect = line.protect;
   readable = line.readable;
 }
 
 -- The records once a write has settled: one word of one record is changed, and none where the line is protected.
-abbrev pub recorded : Write → List Line → List Line
+abbrev pub recorded : Store → List Line → List Line
 recorded w lines =
     cond (line_at lines (line_of w.word)).protect lines
-    (slice_set lines (line_of w.word) (changed (line_at lines (line_of w.word)) (place_of w.word) w.lanes w.value))
+    (slice_set lines (line_of w.word) (changed (line_at lines (line_of w.word)) w))

@@ -1,7 +1,7 @@
 -- A RAM bank as a port: its records are its settled memory, and nothing ever waits.
 use Rattle.std.specs.Prelude.{◌≡◌, List, [], length, Ok, Err, Result}
 use Rattle.fault.specs.declared.Fault.{Fault}
-use Rattle.port.specs.declared.Write.{Write}
+use Rattle.port.specs.declared.Store.{Store}
 use Rattle.port.specs.Memory.{State}
 use Rattle.port.specs.Steps.{Step, reads, writes, advances, outsides, snoops, flushes}
 use Rattle.banks.specs.declared.line.Line.{Line}
@@ -23,7 +23,7 @@ pub record Holds (b : RamBank) (lines : List Line) (c : RamBank) : Type 0 where
   pub caller : c.lines.ghost_name ≡ b.lines.ghost_name
 
 -- An accepted write changes one word of one record, a refused one changes nothing.
-abbrev pub RamWritten : RamBank → Write → Result (Unit {0}) Fault → RamBank → Type 0
+abbrev pub RamWritten : RamBank → Store → Result (Unit {0}) Fault → RamBank → Type 0
 RamWritten b w (Ok _) c = Holds b (recorded w b.lines.now) c
 RamWritten b w (Err _) c = c ≡ b
 

@@ -4,7 +4,7 @@ ghost use Rattle.banks.specs.Eprom.{eprom_state};
 
 use super::sizes::eprom_size;
 use fault::Fault;
-use port::{Port, check_range, check_write};
+use port::{Port, Store, check_range, check_write};
 
 /// A bank that borrows the bytes of its words, and takes every write without a change.
 #[derive(Drop)]
@@ -32,16 +32,11 @@ impl<'a> EpromBank<'a> {
 impl<'a> Port for EpromBank<'a> {
     ghost state = { λ b. eprom_state b.bytes.now };
 
-    ghost sound = { λ b. Unit {0} };
-
     // No call changes an EPROM bank.
     ghost does = { λ b d c. c ≡ b };
 
     fn words(&self) -> u32 {
-        match eprom_size(self.bytes) {
-            Ok(words) => words,
-            Err(_) => 0,
-        }
+        eprom_size(self.bytes).unwrap_or(0)
     }
 
     fn floor(&self) -> u8 {
@@ -61,8 +56,8 @@ impl<'a> Port for EpromBank<'a> {
         self.settled_read(word)
     }
 
-    fn write(&mut self, word: u32, lanes: u8, value: u16) -> Result<(), Fault> {
-        self.outside_write(word, lanes, value)
+    fn write(&mut self, write: Store) -> Result<(), Fault> {
+        self.outside_write(write)
     }
 
     fn advance(&mut self) {}
@@ -73,8 +68,8 @@ impl<'a> Port for EpromBank<'a> {
         Ok(u16::from_le_bytes([self.bytes[at], self.bytes[at + 1]]))
     }
 
-    fn outside_write(&mut self, word: u32, lanes: u8, _value: u16) -> Result<(), Fault> {
-        check_write(word, lanes, self.words(), 0)
+    fn outside_write(&mut self, write: Store) -> Result<(), Fault> {
+        check_write(write, self.words(), 0)
     }
 
     fn snoop(&mut self, word: u32) -> Result<(), Fault> {

@@ -9,4 +9,4 @@ mod sizes;
 pub use eprom::EpromBank;
 pub use line::Line;
 pub use ram::RamBank;
-pub use sizes::{eprom_size, ram_size, size_of_lines};
+pub use sizes::{eprom_size, joint_size, ram_size, size_of_lines};

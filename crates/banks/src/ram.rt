@@ -5,7 +5,7 @@ ghost use Rattle.banks.specs.Ram.{ram_state, RamDoes};
 use super::line::Line;
 use super::sizes::ram_size;
 use fault::{Fault, Refusal};
-use port::{Port, check_range, check_write};
+use port::{Port, Store, check_range, check_write};
 
 /// A bank that borrows its records, and changes one of them for each write.
 #[derive(Drop)]
@@ -31,18 +31,14 @@ impl<'a> RamBank<'a> {
     }
 }
 
+// The EPROM bank's calls are like these. A bank that is generic over what stores its words would have more clauses than it saves.
 impl<'a> Port for RamBank<'a> {
     ghost state = { λ b. ram_state b.lines.now };
-
-    ghost sound = { λ b. Unit {0} };
 
     ghost does = { λ b d c. RamDoes b d c };
 
     fn words(&self) -> u32 {
-        match ram_size(self.lines) {
-            Ok(words) => words,
-            Err(_) => 0,
-        }
+        ram_size(self.lines).unwrap_or(0)
     }
 
     fn floor(&self) -> u8 {
@@ -63,8 +59,8 @@ impl<'a> Port for RamBank<'a> {
         self.settled_read(word)
     }
 
-    fn write(&mut self, word: u32, lanes: u8, value: u16) -> Result<(), Fault> {
-        self.outside_write(word, lanes, value)
+    fn write(&mut self, write: Store) -> Result<(), Fault> {
+        self.outside_write(write)
     }
 
     fn advance(&mut self) {}
@@ -83,11 +79,11 @@ impl<'a> Port for RamBank<'a> {
         Ok(line.words[place])
     }
 
-    fn outside_write(&mut self, word: u32, lanes: u8, value: u16) -> Result<(), Fault> {
-        check_write(word, lanes, self.words(), 0)?;
-        let line = (word / 8) as usize;
+    fn outside_write(&mut self, write: Store) -> Result<(), Fault> {
+        check_write(write, self.words(), 0)?;
+        let line = (write.word / 8) as usize;
         if !self.lines[line].protect {
-            self.lines[line].change((word % 8) as usize, lanes, value);
+            self.lines[line].change(write);
         }
         Ok(())
     }

@@ -1,5 +1,5 @@
 //! Whether a bank or a map can be made of what the caller has.
-ghost use Rattle.std.specs.Prelude.{◌≡◌, ◌/◌, length};
+ghost use Rattle.std.specs.Prelude.{◌≡◌, ◌+◌, ◌/◌, length};
 ghost use Rattle.banks.specs.Sizes.{size_of_lines, lines_of_bytes};
 
 use super::line::Line;
@@ -21,6 +21,13 @@ pub fn size_of_lines(lines: usize) -> Result<u32, Fault>
             floor: 0,
         })
     }
+}
+
+/// How many words ports of so many words make together, or why they make no port.
+pub fn joint_size(low: u32, high: u32) -> Result<u32, Fault>
+    ensures { result ≡ size_of_lines ((low + high) / 8) }
+{
+    size_of_lines((low as usize + high as usize) / 8)
 }
 
 /// How many words a RAM bank on these records has, or why it has none.

@@ -1,9 +1,9 @@
 -- The bench cards: what the stages come to on a few numbers, by the definitions that their contracts cite.
 use Rattle.std.specs.Prelude.{◌≡◌, ℕ, ◌*◌, true, false, List, [], ◌∷◌, ◌++◌, Some, None, Ok, Option}
-use Rattle.port.specs.declared.Write.{Write}
+use Rattle.port.specs.declared.Store.{Store}
 use Rattle.port.specs.Lanes.{joined}
 use Rattle.port.specs.Memory.{State, posted, outside}
-use Rattle.port.specs.Meaning.{read_answer, settled_answer, writing}
+use Rattle.port.specs.Meaning.{read_answer, settled_answer}
 use Rattle.port.specs.Steps.{Step, reads, writes}
 use Rattle.write_buffer.specs.Queues.{leaving, left}
 use Rattle.write_buffer.specs.Queues.{joined as queue_with}
@@ -69,11 +69,11 @@ abbrev pub gets : (ℕ → ℕ) → ℕ → Step
 gets content word = reads word (Ok (content word))
 
 -- Writes join a queue one after another: the queue in the end, and the calls below on the way.
-abbrev pub queued_all : List Write → List Write → List Write
+abbrev pub queued_all : List Store → List Store → List Store
 queued_all queue [] = queue
 queued_all queue (w ∷ ws) = queued_all (queue_with w queue) ws
 
-abbrev pub sent_all : List Write → List Write → List Step
+abbrev pub sent_all : List Store → List Store → List Step
 sent_all queue [] = []
 sent_all queue (w ∷ ws) = sends (left (leaving queue)) ++ sent_all (queue_with w queue) ws
 
@@ -88,11 +88,13 @@ settled_at value = record {
 
 -- A 9 waits for a word that is settled at 0.
 abbrev pub nine_waits : State
-nine_waits = posted (writing 2 3 0x0009 ∷ []) (settled_at 0x0000)
+nine_waits = posted (record { word = 2; lanes = 3; value = 0x0009 } ∷ []) (settled_at 0x0000)
 
 -- The low byte of a word waits, and then the word is written from outside.
 abbrev pub overtaken : State
-overtaken = outside (writing 2 3 0x3333) (posted (writing 2 1 0x0022 ∷ []) (settled_at 0x1111))
+overtaken =
+    outside (record { word = 2; lanes = 3; value = 0x3333 })
+    (posted (record { word = 2; lanes = 1; value = 0x0022 } ∷ []) (settled_at 0x1111))
 
 pub record BenchCards : Type 0 where
   pub word_20003 : location_of 20003 ≡ record { line = 2500; place = 3; set = 196; tag = 9 }
@@ -109,10 +111,10 @@ pub record BenchCards : Type 0 where
   pub low_lane : joined 1 0x1234 0xabcd ≡ 0x12cd
   pub high_lane : joined 2 0x1234 0xabcd ≡ 0xab34
   -- four writes wait in a buffer, and the fifth sends the first below
-  pub four_wait : (a b c d : Write) → queued_all [] (a ∷ b ∷ c ∷ d ∷ []) ≡ a ∷ b ∷ c ∷ d ∷ []
-  pub none_sent : (a b c d : Write) → sent_all [] (a ∷ b ∷ c ∷ d ∷ []) ≡ []
-  pub fifth_waits : (a b c d e : Write) → queued_all [] (a ∷ b ∷ c ∷ d ∷ e ∷ []) ≡ b ∷ c ∷ d ∷ e ∷ []
-  pub first_sent : (a b c d e : Write) → sent_all [] (a ∷ b ∷ c ∷ d ∷ e ∷ []) ≡ writes a (Ok tt) ∷ []
+  pub four_wait : (a b c d : Store) → queued_all [] (a ∷ b ∷ c ∷ d ∷ []) ≡ a ∷ b ∷ c ∷ d ∷ []
+  pub none_sent : (a b c d : Store) → sent_all [] (a ∷ b ∷ c ∷ d ∷ []) ≡ []
+  pub fifth_waits : (a b c d e : Store) → queued_all [] (a ∷ b ∷ c ∷ d ∷ e ∷ []) ≡ b ∷ c ∷ d ∷ e ∷ []
+  pub first_sent : (a b c d e : Store) → sent_all [] (a ∷ b ∷ c ∷ d ∷ e ∷ []) ≡ writes a (Ok tt) ∷ []
   -- a waiting write is seen, and is not settled
   pub settled_0000 : settled_answer nine_waits 2 ≡ Ok 0x0000
   pub seen_0009 : read_answer nine_waits 2 ≡ Ok 0x0009

@@ -1,20 +1,16 @@
 //! Tries the bench cards on real boards, and prints what comes out.
 #![tactic(auto)]
 
-ghost use Rattle.std.specs.Prelude.{◌≡◌};
-ghost use Rattle.cache.specs.Doing.{Sound};
-
 use banks::{EpromBank, Line, RamBank};
 use bench::locate;
 use board::Board;
 use book::Answer;
 use cache::Cache;
-use calls::{Call, Store};
+use calls::Call;
 use card::{AnswerText, stock_image, stock_lines};
 use fault::Fault;
 use joined_map::JoinedMap;
-use port::Port;
-use std::alloc::{AllocError, Global};
+use port::{Port, Store};
 use std::io;
 use write_buffer::WriteBuffer;
 
@@ -34,10 +30,7 @@ fn print_way(rt: &HostRuntime, line: u32, way: Option<u32>) -> io::Result<()> {
 }
 
 // Begins a fill with a read, and lets it go on for some steps.
-fn fill_from<P: Port>(board: &mut Board<P>, word: u32, steps: u32)
-    requires { P.sound board.old.port }
-    ensures { P.sound board.new.port }
-{
+fn fill_from<P: Port>(board: &mut Board<P>, word: u32, steps: u32) {
     let _ = board.call(Call::Read(word));
     for _ in 0..steps {
         let _ = board.call(Call::Advance);
@@ -45,79 +38,53 @@ fn fill_from<P: Port>(board: &mut Board<P>, word: u32, steps: u32)
 }
 
 // Lets all writes settle.
-fn settle<P: Port>(board: &mut Board<P>)
-    requires { P.sound board.old.port }
-    ensures { P.sound board.new.port }
-{
+fn settle<P: Port>(board: &mut Board<P>) {
     let _ = board.call(Call::Lock);
     let _ = board.call(Call::Unlock);
 }
 
 // Whether the cache holds a word after some steps of a fill from another. A write that waits in the buffer shows it: a read
 // that is not answered by the cache goes below, and sends the write on.
-fn is_held<P: Port>(board: &mut Board<P>, first: u32, steps: u32, word: u32) -> bool
-    requires { P.sound board.old.port }
-    ensures { P.sound board.new.port }
-{
+fn is_held<P: Port>(board: &mut Board<P>, first: u32, steps: u32, word: u32) -> bool {
     let _ = board.call(Call::Flush);
     settle(board);
     fill_from(board, first, steps);
-    let _ = board.call(Call::Write(write_of(0, 3, 0)));
+    let _ = board.call(Call::Write(Store::new(0, 3, 0)));
     let _ = board.call(Call::Read(word));
     board.waiting() > 0
 }
 
 // The place in a line that a step of a fill brings: held after the step, and not before it.
-fn place_at_step<P: Port>(board: &mut Board<P>, line: u32, first: u32, step: u32) -> Option<u32>
-    requires { P.sound board.old.port }
-    ensures { P.sound board.new.port }
-{
-    for place in 0..8u32 {
-        let word = line.wrapping_mul(8).wrapping_add(place);
+fn place_at_step<P: Port>(board: &mut Board<P>, line: u32, first: u32, step: u32) -> Option<u32> {
+    (0..8u32).find(|place| {
+        let word = line.wrapping_mul(8).wrapping_add(*place);
         let before = step > 0 && is_held(board, first, step - 1, word);
-        if !before && is_held(board, first, step, word) {
-            return Some(place);
-        }
-    }
-    None
+        !before && is_held(board, first, step, word)
+    })
 }
 
 // The set and the tag of the first valid way.
-fn first_valid<P: Port>(cache: &Cache<P>) -> Option<(u32, u32)>
-    requires { Sound P.state P.sound cache.now }
-{
-    for set in 0..256u32 {
-        for way in 0..4u32 {
-            if let Ok(told) = cache.inspect(set, way) {
-                if told.valid {
-                    return Some((set, told.tag));
-                }
-            }
-        }
-    }
-    None
+fn first_valid<P: Port>(cache: &Cache<P>) -> Option<(u32, u32)> {
+    (0..256u32)
+        .flat_map(|set| (0..4u32).map(move |way| (set, way)))
+        .find_map(|(set, way)| match cache.inspect(set, way) {
+            Ok(told) if told.valid => Some((set, told.tag)),
+            _ => None,
+        })
 }
 
 // The way that holds a line.
-fn way_of<P: Port>(cache: &Cache<P>, line: u32) -> Option<u32>
-    requires { Sound P.state P.sound cache.now }
-{
+fn way_of<P: Port>(cache: &Cache<P>, line: u32) -> Option<u32> {
     let at = locate(line.wrapping_mul(8));
-    for way in 0..4u32 {
-        if let Ok(told) = cache.inspect(at.set, way) {
-            if told.valid && told.tag == at.tag {
-                return Some(way);
-            }
-        }
-    }
-    None
+    (0..4u32).find(|way| {
+        cache
+            .inspect(at.set, *way)
+            .is_ok_and(|told| told.valid && told.tag == at.tag)
+    })
 }
 
 // Where the cache keeps the line of word 20,003, and at which place of it a fill from that word begins.
-fn try_where<P: Port>(rt: &HostRuntime, board: &mut Board<Cache<P>>) -> io::Result<()>
-    requires { Sound P.state P.sound board.old.port }
-    ensures { Sound P.state P.sound board.new.port }
-{
+fn try_where<P: Port>(rt: &HostRuntime, board: &mut Board<Cache<P>>) -> io::Result<()> {
     let _ = board.call(Call::Flush);
     fill_from(board, 20_003, 7);
     let Some((set, tag)) = first_valid(board.port()) else {
@@ -135,10 +102,7 @@ fn try_lines<P: Port>(
     rt: &HostRuntime,
     board: &mut Board<Cache<P>>,
     lines: &[u32],
-) -> io::Result<()>
-    requires { Sound P.state P.sound board.old.port }
-    ensures { Sound P.state P.sound board.new.port }
-{
+) -> io::Result<()> {
     let _ = board.call(Call::Flush);
     for line in lines {
         fill_from(board, line.wrapping_mul(8), 7);
@@ -148,10 +112,7 @@ fn try_lines<P: Port>(
 }
 
 // After four lines of a set a snoop drops line 256, and line 1,024 is filled.
-fn try_snoop<P: Port>(rt: &HostRuntime, board: &mut Board<Cache<P>>) -> io::Result<()>
-    requires { Sound P.state P.sound board.old.port }
-    ensures { Sound P.state P.sound board.new.port }
-{
+fn try_snoop<P: Port>(rt: &HostRuntime, board: &mut Board<Cache<P>>) -> io::Result<()> {
     println!(rt; "four lines filled after a flush:")?;
     try_lines(rt, board, &FIVE_LINES[..4])?;
     print_answer(rt, "snoop of line 256", board.call(Call::Snoop(256 * 8)))?;
@@ -161,10 +122,7 @@ fn try_snoop<P: Port>(rt: &HostRuntime, board: &mut Board<Cache<P>>) -> io::Resu
 }
 
 // The places that a fill from place 5 of line 2,500 brings, step by step.
-fn try_order<P: Port>(rt: &HostRuntime, board: &mut Board<P>) -> io::Result<()>
-    requires { P.sound board.old.port }
-    ensures { P.sound board.new.port }
-{
+fn try_order<P: Port>(rt: &HostRuntime, board: &mut Board<P>) -> io::Result<()> {
     print!(rt; "fill from place 5:")?;
     for step in 0..8u32 {
         match place_at_step(board, 2_500, 20_005, step) {
@@ -176,9 +134,7 @@ fn try_order<P: Port>(rt: &HostRuntime, board: &mut Board<P>) -> io::Result<()>
 }
 
 // The cards of the cache, on a board over a cache over a buffer.
-fn try_cache<P: Port + Drop>(rt: &HostRuntime, memory: P) -> io::Result<()>
-    requires { P.sound memory }
-{
+fn try_cache<P: Port + Drop>(rt: &HostRuntime, memory: P) -> io::Result<()> {
     let mut board = Board::new(Cache::new(WriteBuffer::new(memory)));
     try_where(rt, &mut board)?;
     println!(rt; "five lines filled after a flush:")?;
@@ -187,42 +143,27 @@ fn try_cache<P: Port + Drop>(rt: &HostRuntime, memory: P) -> io::Result<()>
     try_order(rt, &mut board)
 }
 
-fn write_of(word: u32, lanes: u8, value: u16) -> Store
-    ensures { result ≡ record { word = word; lanes = lanes; value = value } }
-{
-    Store { word, lanes, value }
-}
-
 // Some lanes of ABCD over 1234.
 fn try_lanes<P: Port>(
     rt: &HostRuntime,
     board: &mut Board<P>,
     what: &str,
     lanes: u8,
-) -> io::Result<()>
-    requires { P.sound board.old.port }
-    ensures { P.sound board.new.port }
-{
-    let _ = board.call(Call::Unposted(write_of(2, 3, 0x1234)));
-    let _ = board.call(Call::Write(write_of(2, lanes, 0xabcd)));
+) -> io::Result<()> {
+    let _ = board.call(Call::Unposted(Store::new(2, 3, 0x1234)));
+    let _ = board.call(Call::Write(Store::new(2, lanes, 0xabcd)));
     print_answer(rt, what, board.call(Call::Read(2)))
 }
 
 // Writes a value to a word, and prints how many writes wait then.
-fn post<P: Port>(rt: &HostRuntime, board: &mut Board<P>, word: u32, value: u16) -> io::Result<()>
-    requires { P.sound board.old.port }
-    ensures { P.sound board.new.port }
-{
-    let _ = board.call(Call::Write(write_of(word, 3, value)));
+fn post<P: Port>(rt: &HostRuntime, board: &mut Board<P>, word: u32, value: u16) -> io::Result<()> {
+    let _ = board.call(Call::Write(Store::new(word, 3, value)));
     let waiting = board.waiting();
     println!(rt; "  write {value:04X} to word {word}: {waiting} waiting")
 }
 
 // Prints a word as the display unit sees it, which reads settled memory.
-fn print_settled<P: Port>(rt: &HostRuntime, board: &mut Board<P>, word: u32) -> io::Result<()>
-    requires { P.sound board.old.port }
-    ensures { P.sound board.new.port }
-{
+fn print_settled<P: Port>(rt: &HostRuntime, board: &mut Board<P>, word: u32) -> io::Result<()> {
     match board.master_cycle(word) {
         Ok(value) => println!(rt; "  settled word {word}: {value:04X}"),
         Err(fault) => print_answer(rt, "settled word", Err(fault)),
@@ -230,10 +171,7 @@ fn print_settled<P: Port>(rt: &HostRuntime, board: &mut Board<P>, word: u32) -> 
 }
 
 // Four writes wait, and the fifth sends the first below.
-fn try_five_writes<P: Port>(rt: &HostRuntime, board: &mut Board<P>) -> io::Result<()>
-    requires { P.sound board.old.port }
-    ensures { P.sound board.new.port }
-{
+fn try_five_writes<P: Port>(rt: &HostRuntime, board: &mut Board<P>) -> io::Result<()> {
     println!(rt; "five writes:")?;
     settle(board);
     post(rt, board, 8, 1)?;
@@ -247,10 +185,7 @@ fn try_five_writes<P: Port>(rt: &HostRuntime, board: &mut Board<P>) -> io::Resul
 }
 
 // A write that waits is seen by the processor, and has not settled.
-fn try_seen<P: Port>(rt: &HostRuntime, board: &mut Board<P>) -> io::Result<()>
-    requires { P.sound board.old.port }
-    ensures { P.sound board.new.port }
-{
+fn try_seen<P: Port>(rt: &HostRuntime, board: &mut Board<P>) -> io::Result<()> {
     println!(rt; "settled and seen:")?;
     settle(board);
     post(rt, board, 16, 9)?;
@@ -259,40 +194,32 @@ fn try_seen<P: Port>(rt: &HostRuntime, board: &mut Board<P>) -> io::Result<()>
 }
 
 // A byte waits over 1111, and then the display unit writes 3333.
-fn try_overtaken<P: Port>(rt: &HostRuntime, board: &mut Board<P>) -> io::Result<()>
-    requires { P.sound board.old.port }
-    ensures { P.sound board.new.port }
-{
+fn try_overtaken<P: Port>(rt: &HostRuntime, board: &mut Board<P>) -> io::Result<()> {
     println!(rt; "low byte of 0022 waiting over 1111, then 3333 from the display unit:")?;
-    let _ = board.call(Call::Unposted(write_of(24, 3, 0x1111)));
-    let _ = board.call(Call::Write(write_of(24, 1, 0x0022)));
+    let _ = board.call(Call::Unposted(Store::new(24, 3, 0x1111)));
+    let _ = board.call(Call::Write(Store::new(24, 1, 0x0022)));
     let _ = board.call(Call::Ask);
-    let _ = board.call(Call::MasterWrite(write_of(24, 3, 0x3333)));
+    let _ = board.call(Call::MasterWrite(Store::new(24, 3, 0x3333)));
     let _ = board.call(Call::Give);
     print_answer(rt, "read of word 24", board.call(Call::Read(24)))
 }
 
 // The ends of the card's memory, and lanes that there are not.
-fn try_ends<P: Port>(rt: &HostRuntime, board: &mut Board<P>) -> io::Result<()>
-    requires { P.sound board.old.port }
-    ensures { P.sound board.new.port }
-{
+fn try_ends<P: Port>(rt: &HostRuntime, board: &mut Board<P>) -> io::Result<()> {
     let words = board.words();
     println!(rt; "the card's {words} words:")?;
     print_answer(rt, "read of word 16895", board.call(Call::Read(16_895)))?;
     print_answer(rt, "read of word 16896", board.call(Call::Read(16_896)))?;
-    let three = board.call(Call::Write(write_of(2, 3, 0)));
+    let three = board.call(Call::Write(Store::new(2, 3, 0)));
     print_answer(rt, "write by lanes 3", three)?;
-    let none = board.call(Call::Write(write_of(2, 0, 0)));
+    let none = board.call(Call::Write(Store::new(2, 0, 0)));
     print_answer(rt, "write by lanes 0", none)?;
-    let four = board.call(Call::Write(write_of(2, 4, 0)));
+    let four = board.call(Call::Write(Store::new(2, 4, 0)));
     print_answer(rt, "write by lanes 4", four)
 }
 
 // The cards of the write buffer and of lanes, on a board over a cache over a buffer.
-fn try_writes<P: Port + Drop>(rt: &HostRuntime, memory: P) -> io::Result<()>
-    requires { P.sound memory }
-{
+fn try_writes<P: Port + Drop>(rt: &HostRuntime, memory: P) -> io::Result<()> {
     let mut board = Board::new(Cache::new(WriteBuffer::new(memory)));
     println!(rt; "ABCD over 1234:")?;
     try_lanes(rt, &mut board, "lanes 1", 1)?;
@@ -303,19 +230,9 @@ fn try_writes<P: Port + Drop>(rt: &HostRuntime, memory: P) -> io::Result<()>
     try_ends(rt, &mut board)
 }
 
-// Enough zeroed RAM for word 20,003, which the card's own memory does not have.
-fn make_ram(heap: Global) -> Result<Vec<Line>, AllocError> {
-    let zero = Line {
-        words: [0; 8],
-        cacheable: true,
-        protect: false,
-        readable: [true; 8],
-    };
-    vec![in heap; zero; 4_096]
-}
-
 fn main(rt: HostRuntime) -> io::Result<()> {
-    let mut lines = make_ram(rt.alloc())?;
+    // Enough RAM for word 20,003, which the card's own memory does not have.
+    let mut lines = vec![in rt.alloc(); Line::ZEROED; 4_096]?;
     try_cache(&rt, RamBank::new(&mut lines))?;
     let mut lines = stock_lines(rt.alloc())?;
     let image = stock_image(rt.alloc())?;

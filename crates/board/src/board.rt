@@ -6,13 +6,16 @@ ghost use Rattle.port.specs.Memory.{drained, posted};
 ghost use Rattle.port.specs.Meaning.{marks_answer, waiting_answer, write_answer, ByAnswer};
 ghost use Rattle.port.specs.Steps.{Drains};
 ghost use Rattle.book.specs.declared.answer.Mode.TheVariants.{Free};
-ghost use Rattle.book.specs.Tables.{board_floor, place_in, write_of};
+ghost use Rattle.book.specs.Tables.{board_floor, place_in};
 ghost use Rattle.book.specs.Calling.{as_done, as_word, Through, Called, Cycled};
 
 use book::{Answer, Mode};
-use calls::{Call, Cargo, Store};
+use calls::{Call, Cargo};
 use fault::{Fault, Refusal};
-use port::{Port, settle_all};
+use port::{Port, Store, settle_all};
+
+// Two tokens with calls of their own, as the users asked for. One token over a trait of its four calls would save five short bodies, for a
+// trait with four definitions and two impls of eight lines each.
 
 /// The right to make locked calls: handed out by `lock`, spent by `unlock`.
 pub struct Lock {
@@ -37,33 +40,17 @@ fn place_of(call: Call) -> u32
     match call.cargo() {
         Cargo::Nothing => 0,
         Cargo::Word(word) => word,
-        Cargo::Store(store) => store.word,
+        Cargo::Store(write) => write.word,
     }
 }
 
-fn done(answer: Result<(), Fault>) -> Result<Answer, Fault>
-    ensures { result ≡ as_done answer }
-{
-    answer?;
-    Ok(Answer::Done)
-}
-
-fn worded(answer: Result<u16, Fault>) -> Result<Answer, Fault>
-    ensures { result ≡ as_word answer }
-{
-    let word = answer?;
-    Ok(Answer::Word(word))
-}
-
 // A write that has settled, with all that waited before it, when the call returns.
-fn write_through<P: Port>(port: &mut P, store: Store) -> Result<(), Fault>
-    requires { P.sound port.old }
-    ensures sound { P.sound port.new }
-    ensures value { result ≡ write_answer (P.state port.old) (write_of store) }
-    ensures after { ByAnswer result (P.state port.new ≡ drained (posted (write_of store ∷ []) (P.state port.old))) (port.new ≡ port.old) }
-    ensures did { Through P.state P.does (write_of store) port.old port.new }
+fn write_through<P: Port>(port: &mut P, write: Store) -> Result<(), Fault>
+    ensures value { result ≡ write_answer (P.state port.old) write }
+    ensures after { ByAnswer result (P.state port.new ≡ drained (posted (write ∷ []) (P.state port.old))) (port.new ≡ port.old) }
+    ensures did { Through P.Port write port.old port.new }
 {
-    port.write(store.word, store.lanes, store.value)?;
+    port.write(write)?;
     settle_all(port);
     Ok(())
 }
@@ -71,8 +58,6 @@ fn write_through<P: Port>(port: &mut P, store: Store) -> Result<(), Fault>
 impl<P: Port> Board<P> {
     /// A free board on a port, in which nothing waits any more.
     pub fn new(port: P) -> Board<P>
-        requires { P.sound port }
-        ensures sound { P.sound result.port }
         ensures mode { result.mode ≡ Free }
         ensures settled { P.state result.port ≡ drained (P.state port) }
         ensures did { Drains P.state P.does port result.port }
@@ -87,7 +72,6 @@ impl<P: Port> Board<P> {
 
     /// How many words the port has.
     pub fn words(&self) -> u32
-        requires { P.sound self.now.port }
         ensures { result ≡ (P.state self.now.port).facts.words }
     {
         self.port.words()
@@ -95,7 +79,6 @@ impl<P: Port> Board<P> {
 
     /// Whether a line may be cached, and whether it is protected.
     pub fn marks(&self, line: u32) -> Result<(bool, bool), Fault>
-        requires { P.sound self.now.port }
         ensures { result ≡ marks_answer (P.state self.now.port) line }
     {
         self.port.marks(line)
@@ -103,7 +86,6 @@ impl<P: Port> Board<P> {
 
     /// How many writes wait, as far as a `u32` counts.
     pub fn waiting(&self) -> u32
-        requires { P.sound self.now.port }
         ensures { result ≡ waiting_answer (P.state self.now.port) }
     {
         self.port.waiting()
@@ -111,7 +93,6 @@ impl<P: Port> Board<P> {
 
     /// One more than the port's floor, up to 255.
     pub fn floor(&self) -> u8
-        requires { P.sound self.now.port }
         ensures { result ≡ board_floor (P.state self.now.port).facts.floor }
     {
         self.port.floor().saturating_add(1)
@@ -134,7 +115,6 @@ impl<P: Port> Board<P> {
 
     // The answer to a call that the mode turns down.
     fn refuse(&self, refusal: Refusal, place: u32) -> Result<Answer, Fault>
-        requires { P.sound self.now.port }
         ensures { result ≡ Err (record { refusal = refusal; place = place; floor = board_floor (P.state self.now.port).facts.floor }) }
     {
         Err(Fault {
@@ -146,27 +126,34 @@ impl<P: Port> Board<P> {
 
     /// Makes a call without tokens. The mode and the call together decide what is done.
     pub fn call(&mut self, call: Call) -> Result<Answer, Fault>
-        requires { P.sound self.old.port }
-        ensures sound { P.sound self.new.port }
-        ensures called { Called P.state P.does self.old.mode self.old.port call result self.new.mode self.new.port }
+        ensures called { Called P.Port self.old.mode self.old.port call result self.new.mode self.new.port }
     {
         let place = place_of(call);
+        // One table of the mode and the call, as the users asked for.
         match (call, self.mode) {
-            (Call::Read(word), Mode::Free | Mode::Granted) => worded(self.port.read(word)),
-            (Call::Write(store), Mode::Free | Mode::Granted) => done(
-                self.port.write(store.word, store.lanes, store.value),
-            ),
-            (Call::Unposted(store), Mode::Free | Mode::Granted) => done(write_through(
+            (Call::Read(word), Mode::Free | Mode::Granted) => self
+                .port
+                .read(word)
+                .map(Answer::Word),
+            (Call::Write(write), Mode::Free | Mode::Granted) => self
+                .port
+                .write(write)
+                .map(|()| Answer::Done),
+            (Call::Unposted(write), Mode::Free | Mode::Granted) => write_through(
                 &mut self.port,
-                store,
-            )),
-            (Call::LockedWrite(store), Mode::Locked) => done(write_through(&mut self.port, store)),
-            (Call::LockedRead(word), Mode::Locked) | (Call::MasterRead(word), Mode::Granted) =>
-                worded(self.port.settled_read(word)),
-            (Call::MasterWrite(store), Mode::Granted) => done(
-                self.port
-                    .outside_write(store.word, store.lanes, store.value),
+                write,
+            ).map(|()| Answer::Done),
+            (Call::LockedWrite(write), Mode::Locked) => write_through(&mut self.port, write).map(
+                |()| Answer::Done,
             ),
+            (Call::LockedRead(word), Mode::Locked) | (Call::MasterRead(word), Mode::Granted) => self
+                .port
+                .settled_read(word)
+                .map(Answer::Word),
+            (Call::MasterWrite(write), Mode::Granted) => self
+                .port
+                .outside_write(write)
+                .map(|()| Answer::Done),
             (Call::Lock, Mode::Free) => {
                 settle_all(&mut self.port);
                 self.mode = Mode::Locked;
@@ -184,7 +171,7 @@ impl<P: Port> Board<P> {
                 self.port.advance();
                 Ok(Answer::Done)
             }
-            (Call::Snoop(word), _) => done(self.port.snoop(word)),
+            (Call::Snoop(word), _) => self.port.snoop(word).map(|()| Answer::Done),
             (Call::Flush, _) => {
                 self.port.flush();
                 Ok(Answer::Done)
@@ -204,9 +191,7 @@ impl<P: Port> Board<P> {
 
     /// Locks the board, once nothing waits, and hands out its lock.
     pub fn lock(&mut self) -> Result<Lock, Fault>
-        requires { P.sound self.old.port }
-        ensures sound { P.sound self.new.port }
-        ensures called { Called P.state P.does self.old.mode self.old.port Locks (as_done result) self.new.mode self.new.port }
+        ensures called { Called P.Port self.old.mode self.old.port Locks (as_done result) self.new.mode self.new.port }
     {
         self.call(Call::Lock)?;
         Ok(Lock { mark: () })
@@ -214,9 +199,7 @@ impl<P: Port> Board<P> {
 
     /// Unlocks the board. The lock is spent, even where the board turns out not to be locked.
     pub fn unlock(&mut self, lock: Lock) -> Result<(), Fault>
-        requires { P.sound self.old.port }
-        ensures sound { P.sound self.new.port }
-        ensures called { Called P.state P.does self.old.mode self.old.port Unlocks (as_done result) self.new.mode self.new.port }
+        ensures called { Called P.Port self.old.mode self.old.port Unlocks (as_done result) self.new.mode self.new.port }
     {
         let Lock { mark: () } = lock;
         self.call(Call::Unlock)?;
@@ -225,32 +208,25 @@ impl<P: Port> Board<P> {
 
     /// The settled word, for the holder of the lock.
     pub fn locked_read(&mut self, _lock: &Lock, word: u32) -> Result<u16, Fault>
-        requires { P.sound self.old.port }
-        ensures sound { P.sound self.new.port }
-        ensures called { Called P.state P.does self.old.mode self.old.port (LockedRead word) (as_word result) self.new.mode self.new.port }
+        ensures called { Called P.Port self.old.mode self.old.port (LockedRead word) (as_word result) self.new.mode self.new.port }
     {
         match self.call(Call::LockedRead(word))? {
             Answer::Word(value) => Ok(value),
-            // never: a read that is taken answers a word
-            Answer::Done => Ok(0),
+            Answer::Done => unreachable!("a read that is taken answers a word"),
         }
     }
 
     /// A write by the holder of the lock, which has settled when the call returns.
-    pub fn locked_write(&mut self, _lock: &Lock, store: Store) -> Result<(), Fault>
-        requires { P.sound self.old.port }
-        ensures sound { P.sound self.new.port }
-        ensures called { Called P.state P.does self.old.mode self.old.port (LockedWrite store) (as_done result) self.new.mode self.new.port }
+    pub fn locked_write(&mut self, _lock: &Lock, write: Store) -> Result<(), Fault>
+        ensures called { Called P.Port self.old.mode self.old.port (LockedWrite write) (as_done result) self.new.mode self.new.port }
     {
-        self.call(Call::LockedWrite(store))?;
+        self.call(Call::LockedWrite(write))?;
         Ok(())
     }
 
     /// Grants the board to the display unit, and hands out the grant.
     pub fn ask(&mut self) -> Result<Grant, Fault>
-        requires { P.sound self.old.port }
-        ensures sound { P.sound self.new.port }
-        ensures called { Called P.state P.does self.old.mode self.old.port Asks (as_done result) self.new.mode self.new.port }
+        ensures called { Called P.Port self.old.mode self.old.port Asks (as_done result) self.new.mode self.new.port }
     {
         self.call(Call::Ask)?;
         Ok(Grant { mark: () })
@@ -258,9 +234,7 @@ impl<P: Port> Board<P> {
 
     /// Ends the grant. It is spent, even where the board turns out not to be granted.
     pub fn give(&mut self, grant: Grant) -> Result<(), Fault>
-        requires { P.sound self.old.port }
-        ensures sound { P.sound self.new.port }
-        ensures called { Called P.state P.does self.old.mode self.old.port Gives (as_done result) self.new.mode self.new.port }
+        ensures called { Called P.Port self.old.mode self.old.port Gives (as_done result) self.new.mode self.new.port }
     {
         let Grant { mark: () } = grant;
         self.call(Call::Give)?;
@@ -269,34 +243,27 @@ impl<P: Port> Board<P> {
 
     /// The settled word, for the holder of the grant.
     pub fn master_read(&mut self, _grant: &Grant, word: u32) -> Result<u16, Fault>
-        requires { P.sound self.old.port }
-        ensures sound { P.sound self.new.port }
-        ensures called { Called P.state P.does self.old.mode self.old.port (MasterRead word) (as_word result) self.new.mode self.new.port }
+        ensures called { Called P.Port self.old.mode self.old.port (MasterRead word) (as_word result) self.new.mode self.new.port }
     {
         match self.call(Call::MasterRead(word))? {
             Answer::Word(value) => Ok(value),
-            // never: a read that is taken answers a word
-            Answer::Done => Ok(0),
+            Answer::Done => unreachable!("a read that is taken answers a word"),
         }
     }
 
     /// A write by the holder of the grant, which goes past the waiting line.
-    pub fn master_write(&mut self, _grant: &Grant, store: Store) -> Result<(), Fault>
-        requires { P.sound self.old.port }
-        ensures sound { P.sound self.new.port }
-        ensures called { Called P.state P.does self.old.mode self.old.port (MasterWrite store) (as_done result) self.new.mode self.new.port }
+    pub fn master_write(&mut self, _grant: &Grant, write: Store) -> Result<(), Fault>
+        ensures called { Called P.Port self.old.mode self.old.port (MasterWrite write) (as_done result) self.new.mode self.new.port }
     {
-        self.call(Call::MasterWrite(store))?;
+        self.call(Call::MasterWrite(write))?;
         Ok(())
     }
 
     /// Reads a word under a lock of its own, which is given back whatever the read answers.
     pub fn locked_cycle(&mut self, word: u32) -> Result<u16, Fault>
-        requires { P.sound self.old.port }
-        ensures sound { P.sound self.new.port }
         ensures mode { self.new.mode ≡ self.old.mode }
-        ensures cycled { self.old.mode ≡ Free → Cycled P.state P.does self.old.mode self.old.port Locks (LockedRead word) Unlocks (as_word result) self.new.mode self.new.port }
-        ensures refused { (self.old.mode ≢ Free) → Called P.state P.does self.old.mode self.old.port Locks (as_word result) self.new.mode self.new.port }
+        ensures cycled { self.old.mode ≡ Free → Cycled P.Port self.old.mode self.old.port Locks (LockedRead word) Unlocks (as_word result) self.new.mode self.new.port }
+        ensures refused { (self.old.mode ≢ Free) → Called P.Port self.old.mode self.old.port Locks (as_word result) self.new.mode self.new.port }
     {
         let lock = self.lock()?;
         let value = self.locked_read(&lock, word);
@@ -306,11 +273,9 @@ impl<P: Port> Board<P> {
 
     /// Reads a word under a grant of its own, which is given back whatever the read answers.
     pub fn master_cycle(&mut self, word: u32) -> Result<u16, Fault>
-        requires { P.sound self.old.port }
-        ensures sound { P.sound self.new.port }
         ensures mode { self.new.mode ≡ self.old.mode }
-        ensures cycled { self.old.mode ≡ Free → Cycled P.state P.does self.old.mode self.old.port Asks (MasterRead word) Gives (as_word result) self.new.mode self.new.port }
-        ensures refused { (self.old.mode ≢ Free) → Called P.state P.does self.old.mode self.old.port Asks (as_word result) self.new.mode self.new.port }
+        ensures cycled { self.old.mode ≡ Free → Cycled P.Port self.old.mode self.old.port Asks (MasterRead word) Gives (as_word result) self.new.mode self.new.port }
+        ensures refused { (self.old.mode ≢ Free) → Called P.Port self.old.mode self.old.port Asks (as_word result) self.new.mode self.new.port }
     {
         let grant = self.ask()?;
         let value = self.master_read(&grant, word);

@@ -7,7 +7,7 @@ use book::Answer;
 use calls::Call;
 use fault::Fault;
 use port::Port;
-use std::alloc::Global;
+use std::alloc::{AllocFailed, Global};
 
 /// A board after a list of calls, and what it answered to each.
 #[derive(Drop)]
@@ -16,19 +16,11 @@ pub struct Outcome<P: Port> {
     pub answers: Vec<Result<Answer, Fault>>,
 }
 
-/// There is no memory for the answers. No call was made, and the ports come back as they were.
-#[derive(Drop)]
-pub struct NoMemory<T> {
-    pub back: T,
-}
-
 // Makes the calls, where there is room for all their answers.
 fn run_into<P: Port>(port: P, calls: &[Call], room: Vec<Result<Answer, Fault>>) -> Outcome<P>
-    requires sound { P.sound port }
     requires empty { (room.items ≡ []) × (vec_len room ≡ 0) }
     requires room { length calls.now ≤ vec_capacity room }
-    ensures sound { P.sound result.board.port }
-    ensures promise { NeverAnOldDigit P.state P.does port calls.now result.answers.items result.board.mode result.board.port }
+    ensures promise { NeverAnOldDigit P.Port port calls.now result.answers.items result.board.mode result.board.port }
 {
     let mut answers = room;
     let mut board = Board::new(port);
@@ -39,39 +31,39 @@ fn run_into<P: Port>(port: P, calls: &[Call], room: Vec<Result<Answer, Fault>>) 
     Outcome { board, answers }
 }
 
-/// Makes a board on a port and gives it every call of a list.
-pub fn run<P: Port>(heap: Global, port: P, calls: &[Call]) -> Result<Outcome<P>, NoMemory<P>>
-    requires { P.sound port }
-    ensures sound { IfOk result (λ run. P.sound run.board.port) }
-    ensures promise { MatchResult result (λ run. NeverAnOldDigit P.state P.does port calls.now run.answers.items run.board.mode run.board.port) (λ none. none.back ≡ port) }
+/// Makes a board on a port and gives it every call of a list. Where there is no memory for the answers no call is made, and the port comes back as it was.
+pub fn run<P: Port>(alloc: Global, port: P, calls: &[Call]) -> Result<Outcome<P>, AllocFailed<P>>
+    ensures promise { MatchResult result (λ run. NeverAnOldDigit P.Port port calls.now run.answers.items run.board.mode run.board.port) (λ failed. failed.value ≡ port) }
     ensures law { TheBookIsSound }
 {
-    match Vec::with_capacity(heap, calls.len()) {
+    match Vec::with_capacity(alloc, calls.len()) {
         Ok(room) => Ok(run_into(port, calls, room)),
-        Err(_) => Err(NoMemory { back: port }),
+        Err(_) => Err(AllocFailed { value: port }),
     }
 }
 
-/// Gives every call of a list to two boards on ports of any kinds, one after the other.
+/// Gives every call of a list to two boards on ports of any kinds, one after the other. Where there is no memory for the answers no call is made, and
+/// both ports come back as they were.
 pub fn compare<P: Port, Q: Port>(
-    heap: Global,
+    alloc: Global,
     one: P,
     other: Q,
     calls: &[Call],
-) -> Result<(Outcome<P>, Outcome<Q>), NoMemory<(P, Q)>>
-    requires one { P.sound one }
-    requires other { Q.sound other }
-    ensures sound { IfOk result (λ runs. P.sound runs.0.board.port × Q.sound runs.1.board.port) }
-    ensures promise { MatchResult result (λ runs. NeverAnOldDigit P.state P.does one calls.now runs.0.answers.items runs.0.board.mode runs.0.board.port) (λ none. none.back.0 ≡ one) }
-    ensures other_promise { MatchResult result (λ runs. NeverAnOldDigit Q.state Q.does other calls.now runs.1.answers.items runs.1.board.mode runs.1.board.port) (λ none. none.back.1 ≡ other) }
+) -> Result<(Outcome<P>, Outcome<Q>), AllocFailed<(P, Q)>>
+    ensures promise { MatchResult result (λ runs. NeverAnOldDigit P.Port one calls.now runs.0.answers.items runs.0.board.mode runs.0.board.port) (λ failed. failed.value.0 ≡ one) }
+    ensures other_promise { MatchResult result (λ runs. NeverAnOldDigit Q.Port other calls.now runs.1.answers.items runs.1.board.mode runs.1.board.port) (λ failed. failed.value.1 ≡ other) }
     ensures alike { IfOk result (λ runs. HeardAlike (P.state one) (Q.state other) calls.now runs.0.answers.items runs.1.answers.items) }
     ensures law { TheBookIsSound }
 {
-    let Ok(room) = Vec::with_capacity(heap, calls.len()) else {
-        return Err(NoMemory { back: (one, other) });
+    let Ok(room) = Vec::with_capacity(alloc, calls.len()) else {
+        return Err(AllocFailed {
+            value: (one, other),
+        });
     };
-    let Ok(other_room) = Vec::with_capacity(heap, calls.len()) else {
-        return Err(NoMemory { back: (one, other) });
+    let Ok(other_room) = Vec::with_capacity(alloc, calls.len()) else {
+        return Err(AllocFailed {
+            value: (one, other),
+        });
     };
     let first = run_into(one, calls, room);
     let second = run_into(other, calls, other_room);

@@ -3,9 +3,9 @@
 
 use banks::{Line, RamBank};
 use board::{compare, run};
-use calls::{Call, Store};
+use calls::Call;
 use joined_map::JoinedMap;
-use port::Port;
+use port::{Port, Store};
 use std::alloc::{AllocError, Global};
 use std::io;
 use write_buffer::WriteBuffer;
@@ -178,19 +178,12 @@ static FIVE_WRITES: [Call; 10] = [
     Call::Give,
 ];
 
-// Zeroed RAM of that many lines, with one word of line 4 unreadable, where there is such a line.
-fn make_ram(heap: Global, lines: usize, unreadable: usize) -> Result<Vec<Line>, AllocError> {
-    let zero = Line {
-        words: [0; 8],
-        cacheable: true,
-        protect: false,
-        readable: [true; 8],
-    };
-    let mut records = vec![in heap; zero; lines]?;
-    if unreadable < 8
-        && let Some(line) = records.get_mut(4)
-    {
-        line.readable[unreadable] = false;
+// Zeroed RAM of that many lines, with word 37 unreadable. The program of banks makes such RAM too: a library for it would be a crate of these
+// few lines.
+fn make_ram(alloc: Global, lines: usize) -> Result<Vec<Line>, AllocError> {
+    let mut records = vec![in alloc; Line::ZEROED; lines]?;
+    if let Some(line) = records.get_mut(37 / 8) {
+        line.readable[37 % 8] = false;
     }
     Ok(records)
 }
@@ -201,44 +194,34 @@ fn try_list<P: Port + Drop>(
     title: &str,
     port: P,
     calls: &[Call],
-) -> io::Result<()>
-    requires { P.sound port }
-{
-    let Ok(outcome) = run(rt.alloc(), port, calls) else {
-        return Err(AllocError.into());
-    };
+) -> io::Result<()> {
+    let outcome = run(rt.alloc(), port, calls)?;
     let floor = outcome.board.floor();
     println!(rt; "{title}: board on floor {floor}")?;
     for (call, answer) in calls.iter().zip(outcome.answers.iter()) {
-        let name = call.name();
-        println!(rt; "  {name}: {answer:?}")?;
+        println!(rt; "  {call}: {answer:?}")?;
     }
     let waiting = outcome.board.waiting();
     println!(rt; "  waiting {waiting}")
 }
 
-// Runs a list on two boards over ports of different kinds, and prints the answers side by side.
+// Runs a list on two boards over ports of different kinds, and prints the answers side by side. A program of piles prints calls with what
+// they carry: one loop for both would take the printing of a line as a closure, and be longer.
 fn try_pair<P: Port + Drop, Q: Port + Drop>(
     rt: &HostRuntime,
     title: &str,
     one: P,
     other: Q,
     calls: &[Call],
-) -> io::Result<()>
-    requires one { P.sound one }
-    requires other { Q.sound other }
-{
-    let Ok((first, second)) = compare(rt.alloc(), one, other, calls) else {
-        return Err(AllocError.into());
-    };
+) -> io::Result<()> {
+    let (first, second) = compare(rt.alloc(), one, other, calls)?;
     println!(rt; "{title}:")?;
     for ((call, one), other) in calls
         .iter()
         .zip(first.answers.iter())
         .zip(second.answers.iter())
     {
-        let name = call.name();
-        println!(rt; "  {name}: {one:?} and {other:?}")?;
+        println!(rt; "  {call}: {one:?} and {other:?}")?;
     }
     Ok(())
 }
@@ -249,16 +232,14 @@ fn try_buffer<P: Port + Drop>(
     title: &str,
     port: P,
     calls: &[Call],
-) -> io::Result<()>
-    requires { P.sound port }
-{
+) -> io::Result<()> {
     try_list(rt, title, WriteBuffer::new(port), calls)
 }
 
 // Two banks of eight lines as one map.
 fn try_halves(rt: &HostRuntime, title: &str, calls: &[Call]) -> io::Result<()> {
-    let mut low = make_ram(rt.alloc(), 8, 5)?;
-    let mut high = make_ram(rt.alloc(), 8, 8)?;
+    let mut low = make_ram(rt.alloc(), 8)?;
+    let mut high = vec![in rt.alloc(); Line::ZEROED; 8]?;
     let map = JoinedMap::new(RamBank::new(&mut low), RamBank::new(&mut high));
     try_stacked(rt, title, map, calls)
 }
@@ -269,16 +250,14 @@ fn try_stacked<P: Port + Drop>(
     title: &str,
     port: P,
     calls: &[Call],
-) -> io::Result<()>
-    requires { P.sound port }
-{
+) -> io::Result<()> {
     try_buffer(rt, title, WriteBuffer::new(port), calls)
 }
 
 fn main(rt: HostRuntime) -> io::Result<()> {
-    let mut whole = make_ram(rt.alloc(), 16, 5)?;
-    let mut low = make_ram(rt.alloc(), 8, 5)?;
-    let mut high = make_ram(rt.alloc(), 8, 8)?;
+    let mut whole = make_ram(rt.alloc(), 16)?;
+    let mut low = make_ram(rt.alloc(), 8)?;
+    let mut high = vec![in rt.alloc(); Line::ZEROED; 8]?;
     let map = JoinedMap::new(RamBank::new(&mut low), RamBank::new(&mut high));
     try_pair(
         &rt,
@@ -287,21 +266,21 @@ fn main(rt: HostRuntime) -> io::Result<()> {
         map,
         &EVERY_KIND,
     )?;
-    let mut lines = make_ram(rt.alloc(), 16, 5)?;
+    let mut lines = make_ram(rt.alloc(), 16)?;
     try_buffer(
         &rt,
         "display over a buffer",
         RamBank::new(&mut lines),
         &MASTER_WRITES,
     )?;
-    let mut lines = make_ram(rt.alloc(), 16, 5)?;
+    let mut lines = make_ram(rt.alloc(), 16)?;
     try_buffer(
         &rt,
         "settled and seen",
         RamBank::new(&mut lines),
         &SETTLED_AND_SEEN,
     )?;
-    let mut lines = make_ram(rt.alloc(), 16, 5)?;
+    let mut lines = make_ram(rt.alloc(), 16)?;
     try_buffer(&rt, "five writes", RamBank::new(&mut lines), &FIVE_WRITES)?;
     try_halves(&rt, "buffer over buffer over map", &FIVE_WRITES)?;
     try_halves(&rt, "every kind over buffers", &EVERY_KIND)

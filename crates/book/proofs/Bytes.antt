@@ -1,6 +1,6 @@
 -- What a byte of a memory is, after a list of writes.
 use Rattle.std.proofs.Common.{◌≡◌, ℕ, ◌+◌, ◌*◌, ◌/◌, ◌%◌, ◌<◌, Bool, true, false, cond, not, ◌&&◌, eqb, List, [], ◌∷◌, ◌++◌, sym, refl, ap, ◌∙◌, arith, true-eqb}
-use Rattle.port.specs.declared.Write.{Write}
+use Rattle.port.specs.declared.Store.{Store}
 use Rattle.port.specs.Lanes.{Lane, low, high, byte, covers, joined_byte, joined}
 use Rattle.port.specs.Memory.{Memory, line_of, stored, applied}
 use Rattle.book.specs.Runs.{Entry, entry_of, marked}
@@ -22,7 +22,7 @@ byte_joined low lanes old new = low_of (joined_byte high lanes old new) (joined_
 byte_joined high lanes old new = high_of (joined_byte high lanes old new) (joined_byte low lanes old new) (small (covers lanes low) new old)
 
 -- One write, by bytes.
-byte_stored : (p : ℕ → Bool) (lane : Lane) (a : ℕ) (m : Memory) (w : Write)
+byte_stored : (p : ℕ → Bool) (lane : Lane) (a : ℕ) (m : Memory) (w : Store)
     → byte lane ((stored p w m).word a) ≡ cond (writes_byte lane a (entry_of p w)) (byte lane w.value) (byte lane (m.word a))
 byte_stored p lane a m w = go (eqb a w.word) refl
   where
@@ -46,7 +46,7 @@ pub data Found (lane : Lane) (a : ℕ) (es : List Entry) (old x : ℕ) : Type 0 
   kept : Unwritten lane a es → x ≡ old → Found lane a es old x
   youngest : (e : Entry) → Youngest lane a es e → x ≡ byte lane e.write.value → Found lane a es old x
 
-pub found : (p : ℕ → Bool) (lane : Lane) (a : ℕ) (ws : List Write) (m : Memory) → Found lane a (marked p ws) (byte lane (m.word a)) (byte lane ((applied p ws m).word a))
+pub found : (p : ℕ → Bool) (lane : Lane) (a : ℕ) (ws : List Store) (m : Memory) → Found lane a (marked p ws) (byte lane (m.word a)) (byte lane ((applied p ws m).word a))
 found p lane a [] m = kept tt refl
 found p lane a (w ∷ ws) m = more (found p lane a ws (stored p w m)) (writes_byte lane a (entry_of p w)) refl
   where
@@ -62,7 +62,7 @@ found p lane a (w ∷ ws) m = more (found p lane a ws (stored p w m)) (writes_by
         kept (t, n) (e ∙ byte_stored p lane a m w ∙ ap (λ (b : Bool). cond b (byte lane w.value) (byte lane (m.word a))) t)
 
 -- A byte of what is seen, over what has settled, over the first content.
-pub comes : (p : ℕ → Bool) (lane : Lane) (a : ℕ) (waiting settled : List Write) (m : Memory)
+pub comes : (p : ℕ → Bool) (lane : Lane) (a : ℕ) (waiting settled : List Store) (m : Memory)
     → Comes lane a (marked p waiting) (marked p settled) (m.word a) (byte lane ((applied p waiting (applied p settled m)).word a))
 comes p lane a waiting settled m = over (found p lane a waiting (applied p settled m))
   where

@@ -2,7 +2,7 @@
 use Rattle.std.proofs.Common.{◌≡◌, ℕ, ◌+◌, ◌≤◌, List, [], ◌++◌, length, take, drop, sym, refl, ap, ◌∙◌, ap₂, append-nil, arith, length-append, length-drop, take_at, drop_at}
 use lib.Seq.{take-length, drop-length}
 use Rattle.calls.specs.declared.call.Call.{Call}
-use Rattle.port.specs.declared.Write.{Write}
+use Rattle.port.specs.declared.Store.{Store}
 use Rattle.port.specs.Memory.{State, posted, settling, drained}
 use Rattle.port.specs.Meaning.{Settles, Advances}
 use Rattle.port.proofs.Settling.{posted_none}
@@ -13,7 +13,7 @@ pub settle_none : (s : State) → settle 0 (posted [] s) ≡ s
 settle_none s = posted_none s
 
 pub settle_all : (s : State) → drained s ≡ settle (length s.waiting) s
-settle_all s = ap₂ (λ (gone rest : List Write). settling gone rest s) (sym (take-length s.waiting)) (sym (drop-length s.waiting))
+settle_all s = ap₂ (λ (gone rest : List Store). settling gone rest s) (sym (take-length s.waiting)) (sym (drop-length s.waiting))
 
 -- A number of the oldest writes, and the state that they leave.
 pub record Settled (s t : State) : Type 0 where
@@ -26,9 +26,9 @@ counted s t a = record {
   count = length a.gone;
   within = omega (arith, ap length a.line ∙ length-append a.gone a.rest);
   left = a.after
-      ∙ ap₂ (λ (gone rest : List Write). settling gone rest s)
-      (sym (ap (λ (l : List Write). take (length a.gone) l) a.line ∙ take_at a.gone a.rest (length a.gone) refl))
-      (sym (ap (λ (l : List Write). drop (length a.gone) l) a.line ∙ drop_at a.gone a.rest (length a.gone) refl));
+      ∙ ap₂ (λ (gone rest : List Store). settling gone rest s)
+      (sym (ap (λ (l : List Store). take (length a.gone) l) a.line ∙ take_at a.gone a.rest (length a.gone) refl))
+      (sym (ap (λ (l : List Store). drop (length a.gone) l) a.line ∙ drop_at a.gone a.rest (length a.gone) refl));
 }
 
 -- A call that is taken settles a number that its kind admits.

@@ -5,7 +5,7 @@ use Rattle.fault.specs.declared.Refusal.{Refusal}
 use Rattle.calls.specs.declared.call.Call.{Call}
 use Rattle.calls.specs.declared.call.Call.TheVariants.{Read, Write as Post, Unposted, Advance, Lock, LockedRead, LockedWrite, Unlock, Ask, MasterRead, MasterWrite, Give, Snoop, Flush}
 use Rattle.calls.specs.Calls.{cargo_of}
-use Rattle.port.specs.declared.Write.{Write}
+use Rattle.port.specs.declared.Store.{Store}
 use Rattle.port.specs.Memory.{applied}
 use Rattle.port.proofs.Settling.{applied-append}
 use Rattle.book.specs.declared.answer.Mode.{Mode}
@@ -46,7 +46,7 @@ calm_step b c k h calm e = go (emptied b.mode b.state.facts.words c (refused b c
     go (inl p) =
         let q : k ≡ length (line b c) = subst (λ (r : Rule). Admits r (length (line b c)) k) p h in
         ap (λ (n : ℕ). drop n (line b c)) q ∙ drop-length (line b c)
-    go (inr p) = ap₂ (λ (xs ys : List Write). drop k (xs ++ ys)) (calm p.0) p.1 ∙ drop-nil k
+    go (inr p) = ap₂ (λ (xs ys : List Store). drop k (xs ++ ys)) (calm p.0) p.1 ∙ drop-nil k
 
 pub calm_run : (b : Book) (cs : List Call) (ks : List ℕ) → Admitted b cs ks → Calm b → Calm (after b cs ks)
 calm_run b [] ks h calm = calm
@@ -77,21 +77,21 @@ own n (Snoop w) None e = record { no_master = refl; own_writes = refl; at_once =
 own n Flush None e = record { no_master = refl; own_writes = refl; at_once = inr refl }
 
 -- All of a line that settles, or is empty.
-whole : (r : Rule) (ws : List Write) (k : ℕ) → Admits r (length ws) k → (r ≡ all) ⊎ (ws ≡ []) → (take k ws ≡ ws) × (drop k ws ≡ [])
+whole : (r : Rule) (ws : List Store) (k : ℕ) → Admits r (length ws) k → (r ≡ all) ⊎ (ws ≡ []) → (take k ws ≡ ws) × (drop k ws ≡ [])
 whole r ws k h (inl e) =
     let q : k ≡ length ws = subst (λ (x : Rule). Admits x (length ws) k) e h in
     (ap (λ (n : ℕ). take n ws) q ∙ take-length ws, ap (λ (n : ℕ). drop n ws) q ∙ drop-length ws)
 whole r ws k h (inr e) =
-    (ap (λ (x : List Write). take k x) e ∙ take-nil k ∙ sym e, ap (λ (x : List Write). drop k x) e ∙ drop-nil k)
+    (ap (λ (x : List Store). take k x) e ∙ take-nil k ∙ sym e, ap (λ (x : List Store). drop k x) e ∙ drop-nil k)
 
 locked_step : (b : Book) (c : Call) (k : ℕ) → b.mode ≡ Locked → b.state.waiting ≡ [] → Allowed b c k
     → ((step b c k).state.settled ≡ applied b.state.protected (if_ok (answer b c) (locks_writes c)) b.state.settled) × ((step b c k).state.waiting ≡ [])
 locked_step b c k e f h =
     let p = b.state.protected in
     let o = own b.state.facts.words c (refused b c) (ap (λ (m : Mode). refusal m b.state.facts.words c) (sym e)) in
-    let l : line b c ≡ joins b c = ap (λ (x : List Write). x ++ joins b c) f in
+    let l : line b c ≡ joins b c = ap (λ (x : List Store). x ++ joins b c) f in
     let w = whole (rule b c) (line b c) k h (elim o.at_once [ inl x ↦ inl x | inr x ↦ inr (l ∙ x) ]) in (
-      ap₂ (λ (xs ys : List Write). applied p xs (applied p ys b.state.settled)) (w.0 ∙ l ∙ o.own_writes ∙ sym (took_locks b c)) o.no_master,
+      ap₂ (λ (xs ys : List Store). applied p xs (applied p ys b.state.settled)) (w.0 ∙ l ∙ o.own_writes ∙ sym (took_locks b c)) o.no_master,
       w.1,
     )
 

@@ -4,7 +4,7 @@ use Rattle.fault.specs.declared.Fault.{Fault}
 use Rattle.fault.specs.declared.Refusal.{Refusal}
 use Rattle.calls.specs.declared.call.Call.{Call}
 use Rattle.calls.specs.declared.call.Call.TheVariants.{Read, Write as Post, Unposted, Advance, Lock, LockedRead, LockedWrite, Unlock, Ask, MasterRead, MasterWrite, Give, Snoop, Flush}
-use Rattle.port.specs.declared.Write.{Write}
+use Rattle.port.specs.declared.Store.{Store}
 use Rattle.port.specs.Memory.{State, applied}
 use Rattle.port.proofs.Settling.{applied-append}
 use Rattle.book.specs.declared.answer.Answer.{Answer}
@@ -45,15 +45,15 @@ none_taken : {X : Type 0} (o : Option Refusal) → if_taken {X = List X} o [] []
 none_taken None = refl
 none_taken (Some x) = refl
 
-took_done : (floor : ℕ) (c : Call) (o : Option Refusal) (xs : List Write) → if_ok (told floor c (unless o (Ok Done))) xs ≡ if_taken o xs []
+took_done : (floor : ℕ) (c : Call) (o : Option Refusal) (xs : List Store) → if_ok (told floor c (unless o (Ok Done))) xs ≡ if_taken o xs []
 took_done floor c None xs = refl
 took_done floor c (Some x) xs = refl
 
-took_of : (b : Book) (c : Call) (xs : List Write) → (says b.state c ≡ Ok Done) ⊎ (xs ≡ []) → if_ok (answer b c) xs ≡ if_taken (refused b c) xs []
+took_of : (b : Book) (c : Call) (xs : List Store) → (says b.state c ≡ Ok Done) ⊎ (xs ≡ []) → if_ok (answer b c) xs ≡ if_taken (refused b c) xs []
 took_of b c xs (inl e) =
     ap (λ (x : Result Answer Refusal). if_ok (told b.state.facts.floor c (unless (refused b c) x)) xs) e ∙ took_done b.state.facts.floor c (refused b c) xs
 took_of b c xs (inr e) =
-    ap (λ (x : List Write). if_ok (answer b c) x) e ∙ if_ok_none (answer b c) ∙ sym (none_taken (refused b c)) ∙ ap (λ (x : List Write). if_taken (refused b c) x []) (sym e)
+    ap (λ (x : List Store). if_ok (answer b c) x) e ∙ if_ok_none (answer b c) ∙ sym (none_taken (refused b c)) ∙ ap (λ (x : List Store). if_taken (refused b c) x []) (sym e)
 
 pub took_posts : (b : Book) (c : Call) → if_ok (answer b c) (posts c) ≡ joins b c
 took_posts b c = took_of b c (posts c) (elim (writes_or_not b.state c) [ inl e ↦ inl e | inr e ↦ inr e.no_post ])
@@ -66,27 +66,27 @@ took_locks b c = took_of b c (locks_writes c) (elim (writes_or_not b.state c) [ 
 
 -- MARKED LISTS
 
-marked_append : (p : ℕ → Bool) (xs ys : List Write) → marked p (xs ++ ys) ≡ marked p xs ++ marked p ys
+marked_append : (p : ℕ → Bool) (xs ys : List Store) → marked p (xs ++ ys) ≡ marked p xs ++ marked p ys
 marked_append p [] ys = refl
 marked_append p (x ∷ xs) ys = ap {B = List Entry} (λ r. entry_of p x ∷ r) (marked_append p xs ys)
 
-marked-take : (p : ℕ → Bool) (k : ℕ) (xs : List Write) → marked p (take k xs) ≡ take k (marked p xs)
+marked-take : (p : ℕ → Bool) (k : ℕ) (xs : List Store) → marked p (take k xs) ≡ take k (marked p xs)
 marked-take p zero xs = refl
 marked-take p (suc k) [] = refl
 marked-take p (suc k) (x ∷ xs) = ap {B = List Entry} (λ r. entry_of p x ∷ r) (marked-take p k xs)
 
-marked-drop : (p : ℕ → Bool) (k : ℕ) (xs : List Write) → marked p (drop k xs) ≡ drop k (marked p xs)
+marked-drop : (p : ℕ → Bool) (k : ℕ) (xs : List Store) → marked p (drop k xs) ≡ drop k (marked p xs)
 marked-drop p zero xs = refl
 marked-drop p (suc k) [] = refl
 marked-drop p (suc k) (x ∷ xs) = marked-drop p k xs
 
-marked-length : (p : ℕ → Bool) (xs : List Write) → length (marked p xs) ≡ length xs
+marked-length : (p : ℕ → Bool) (xs : List Store) → length (marked p xs) ≡ length xs
 marked-length p [] = refl
 marked-length p (x ∷ xs) = ap (λ (n : ℕ). suc n) (marked-length p xs)
 
 lined_is : (b : Book) (c : Call) → lined b.state.protected (marked b.state.protected b.state.waiting) c (answer b c) ≡ marked b.state.protected (line b c)
 lined_is b c =
-    ap (λ (x : List Write). marked b.state.protected b.state.waiting ++ marked b.state.protected x) (took_posts b c)
+    ap (λ (x : List Store). marked b.state.protected b.state.waiting ++ marked b.state.protected x) (took_posts b c)
     ∙ sym (marked_append b.state.protected b.state.waiting (joins b c))
 
 dropped_is : (b : Book) (c : Call) (k : ℕ)
@@ -95,7 +95,7 @@ dropped_is b c k = ap (λ (x : List Entry). drop k x) (lined_is b c) ∙ sym (ma
 
 -- WHAT SETTLES IN THE BOOK
 
-abbrev pub settled_by : Book → List Call → List ℕ → List Write
+abbrev pub settled_by : Book → List Call → List ℕ → List Store
 settled_by b [] ks = []
 settled_by b (c ∷ cs) [] = []
 settled_by b (c ∷ cs) (k ∷ ks) = masters b c ++ (take k (line b c) ++ settled_by (step b c k) cs ks)
@@ -119,7 +119,7 @@ history_is b [] ks = refl
 history_is b (c ∷ cs) [] = refl
 history_is b (c ∷ cs) (k ∷ ks) =
     let p = b.state.protected in
-    ap (λ (x : List Write). marked p x ++ (take k (lined p (marked p b.state.waiting) c (answer b c)) ++ history p (drop k (lined p (marked p b.state.waiting) c (answer b c))) cs (answers (step b c k) cs ks) ks)) (took_masters b c)
+    ap (λ (x : List Store). marked p x ++ (take k (lined p (marked p b.state.waiting) c (answer b c)) ++ history p (drop k (lined p (marked p b.state.waiting) c (answer b c))) cs (answers (step b c k) cs ks) ks)) (took_masters b c)
     ∙ ap (λ (x : List Entry). marked p (masters b c) ++ (x ++ history p (drop k (lined p (marked p b.state.waiting) c (answer b c))) cs (answers (step b c k) cs ks) ks)) (ap (λ (x : List Entry). take k x) (lined_is b c) ∙ sym (marked-take p k (line b c)))
     ∙ ap (λ (x : List Entry). marked p (masters b c) ++ (marked p (take k (line b c)) ++ history p x cs (answers (step b c k) cs ks) ks)) (dropped_is b c k)
     ∙ ap (λ (x : List Entry). marked p (masters b c) ++ (marked p (take k (line b c)) ++ x)) (history_is (step b c k) cs ks)

@@ -6,10 +6,11 @@ use Rattle.fault.specs.declared.Refusal.{Refusal}
 use Rattle.fault.specs.declared.Refusal.TheVariants.{Unreadable}
 use Rattle.calls.specs.declared.call.Call.{Call}
 use Rattle.calls.specs.declared.call.Call.TheVariants.{Read, Write as Post, Unposted, Advance, Lock, LockedRead, LockedWrite, Unlock, Ask, MasterRead, MasterWrite, Give, Snoop, Flush}
-use Rattle.port.specs.declared.Write.{Write}
+use Rattle.port.specs.declared.Store.{Store}
 use Rattle.port.specs.Lanes.{Lane, byte}
+use Rattle.port.specs.declared.Port.{Ghosts}
 use Rattle.port.specs.Memory.{Memory, State, seen, applied, posted, drained}
-use Rattle.port.specs.Steps.{Step, Drains}
+use Rattle.port.specs.Steps.{Drains}
 use Rattle.book.specs.declared.answer.Mode.{Mode}
 use Rattle.book.specs.declared.answer.Mode.TheVariants.{Free, Locked}
 use Rattle.book.specs.declared.answer.Answer.{Answer}
@@ -60,19 +61,19 @@ follows_more b d e cs rs ks c r k h p a l = record {
   left = l ∙ ap (λ (x : Book). step x c k) h.left ∙ sym (more_after b cs ks c k h.admitted);
 }
 
-follows : {P : Type 0} (state : P → State) (does : P → Step → P → Type 0) (m : Mode) (p : P) (cs : List Call) (rs : List (Result Answer Fault)) (ks : List ℕ) (n : Mode) (q : P)
-    → CallsMade state does m p cs rs ks n q → Follows (book_of m (state p)) cs rs ks (book_of n (state q))
-follows state does m p _ _ _ _ _ none_made = record { admitted = tt; answered = refl; left = refl }
-follows state does m p _ _ _ _ _ (one_more {n = n} {o = o} {q = q} {u = u} {c = c} {r = r} {cs = cs} {rs = rs} {ks = ks} t h) =
-    follows_more (book_of m (state p)) (book_of n (state q)) (book_of o (state u)) cs rs ks c r h.count
-    (follows state does m p cs rs ks n q t) h.allowed h.answered h.left
+follows : {P : Type 0} (G : Ghosts P) (m : Mode) (p : P) (cs : List Call) (rs : List (Result Answer Fault)) (ks : List ℕ) (n : Mode) (q : P)
+    → CallsMade G m p cs rs ks n q → Follows (book_of m (G.state p)) cs rs ks (book_of n (G.state q))
+follows G m p _ _ _ _ _ none_made = record { admitted = tt; answered = refl; left = refl }
+follows G m p _ _ _ _ _ (one_more {n = n} {o = o} {q = q} {u = u} {c = c} {r = r} {cs = cs} {rs = rs} {ks = ks} t h) =
+    follows_more (book_of m (G.state p)) (book_of n (G.state q)) (book_of o (G.state u)) cs rs ks c r h.count
+    (follows G m p cs rs ks n q t) h.allowed h.answered h.left
 
 -- One turn of a loop over calls.
-pub made_turn : {P : Type 0} (state : P → State) (does : P → Step → P → Type 0) (m : Mode) (p : P) (cs : List Call) (i : ℕ) (d : Call) (rs rs' : List (Result Answer Fault)) (r : Result Answer Fault) (ks : List ℕ) (n : Mode) (q : P) (o : Mode) (u : P)
-    → i < length cs → rs' ≡ rs ++ (r ∷ []) → CallsMade state does m p (take i cs) rs ks n q → Called state does n q (get_or cs i d) r o u
-    → (js : List ℕ) × CallsMade state does m p (take (i + 1) cs) rs' js o u
-made_turn state does m p cs i d rs rs' r ks n q o u lt e t h =
-    (ks ++ (h.count ∷ []), subst₂ (λ (xs : List Call) (ys : List (Result Answer Fault)). CallsMade state does m p xs ys (ks ++ (h.count ∷ [])) o u) (sym (take_more cs i d lt)) (sym e) (one_more t h))
+pub made_turn : {P : Type 0} (G : Ghosts P) (m : Mode) (p : P) (cs : List Call) (i : ℕ) (d : Call) (rs rs' : List (Result Answer Fault)) (r : Result Answer Fault) (ks : List ℕ) (n : Mode) (q : P) (o : Mode) (u : P)
+    → i < length cs → rs' ≡ rs ++ (r ∷ []) → CallsMade G m p (take i cs) rs ks n q → Called G n q (get_or cs i d) r o u
+    → (js : List ℕ) × CallsMade G m p (take (i + 1) cs) rs' js o u
+made_turn G m p cs i d rs rs' r ks n q o u lt e t h =
+    (ks ++ (h.count ∷ []), subst₂ (λ (xs : List Call) (ys : List (Result Answer Fault)). CallsMade G m p xs ys (ks ++ (h.count ∷ [])) o u) (sym (take_more cs i d lt)) (sym e) (one_more t h))
 
 -- EACH BYTE THAT IS READ HAS ITS NEWEST SOURCE
 
@@ -88,7 +89,7 @@ answer_seen b c a v calm (inl e) h =
 answer_seen b c a v calm (inr e) h =
     let s = said b.state.facts.floor (LockedRead a) (refused b (LockedRead a)) (b.state.settled.readable a) (b.state.settled.word a) v (ap (answer b) (sym e) ∙ h) in
     let locked : b.mode ≡ Locked = is_locked b.mode (both_none (if_locked b.mode) (in_range b.state.facts.words a) s.0).0 in
-    ap (λ (ws : List Write). (applied b.state.protected ws b.state.settled).word a) (calm locked) ∙ s.1
+    ap (λ (ws : List Store). (applied b.state.protected ws b.state.settled).word a) (calm locked) ∙ s.1
 
 calm_first : (s : State) → Calm (first s)
 calm_first s e = refl
@@ -130,12 +131,12 @@ locked_memory s cs ks h i n locked held =
 
 -- THE PROMISE
 
-pub keeps : {P : Type 0} (state : P → State) (does : P → Step → P → Type 0) (p made : P) (cs : List Call) (rs : List (Result Answer Fault)) (ks : List ℕ) (m : Mode) (q : P)
-    → Drains state does p made → state made ≡ drained (state p) → CallsMade state does Free made cs rs ks m q
-    → NeverAnOldDigit state does p cs rs m q
-keeps state does p made cs rs ks m q d e c =
-    let s = state p in
-    let f : Follows (first s) cs rs ks (book_of m (state q)) = subst (λ (x : State). Follows (book_of Free x) cs rs ks (book_of m (state q))) e (follows state does Free made cs rs ks m q c) in
+pub keeps : {P : Type 0} (G : Ghosts P) (p made : P) (cs : List Call) (rs : List (Result Answer Fault)) (ks : List ℕ) (m : Mode) (q : P)
+    → Drains G.state G.does p made → G.state made ≡ drained (G.state p) → CallsMade G Free made cs rs ks m q
+    → NeverAnOldDigit G p cs rs m q
+keeps G p made cs rs ks m q d e c =
+    let s = G.state p in
+    let f : Follows (first s) cs rs ks (book_of m (G.state q)) = subst (λ (x : State). Follows (book_of Free x) cs rs ks (book_of m (G.state q))) e (follows G Free made cs rs ks m q c) in
     let back_to = sym f.answered in
     let once = once_settled (first s) cs ks refl f.admitted in
     record {
@@ -155,21 +156,21 @@ keeps state does p made cs rs ks m q d e c =
     }
 
 -- The start of a loop over calls, and its end.
-pub made_none : {P : Type 0} (state : P → State) (does : P → Step → P → Type 0) (m : Mode) (p : P) (rs : List (Result Answer Fault)) → rs ≡ [] → (ks : List ℕ) × CallsMade state does m p [] rs ks m p
-made_none state does m p rs e = ([], subst (λ (x : List (Result Answer Fault)). CallsMade state does m p [] x [] m p) (sym e) none_made)
+pub made_none : {P : Type 0} (G : Ghosts P) (m : Mode) (p : P) (rs : List (Result Answer Fault)) → rs ≡ [] → (ks : List ℕ) × CallsMade G m p [] rs ks m p
+made_none G m p rs e = ([], subst (λ (x : List (Result Answer Fault)). CallsMade G m p [] x [] m p) (sym e) none_made)
 
-pub keeps_all : {P : Type 0} (state : P → State) (does : P → Step → P → Type 0) (p made : P) (cs : List Call) (rs : List (Result Answer Fault)) (i : ℕ) (ks : List ℕ) (n m : Mode) (q : P)
-    → Drains state does p made → state made ≡ drained (state p) → n ≡ Free → length cs ≤ i → CallsMade state does n made (take i cs) rs ks m q
-    → NeverAnOldDigit state does p cs rs m q
-keeps_all state does p made cs rs i ks n m q d e f h c =
-    keeps state does p made cs rs ks m q d e
-    (subst₂ (λ (x : Mode) (xs : List Call). CallsMade state does x made xs rs ks m q) f (take_all i cs h) c)
+pub keeps_all : {P : Type 0} (G : Ghosts P) (p made : P) (cs : List Call) (rs : List (Result Answer Fault)) (i : ℕ) (ks : List ℕ) (n m : Mode) (q : P)
+    → Drains G.state G.does p made → G.state made ≡ drained (G.state p) → n ≡ Free → length cs ≤ i → CallsMade G n made (take i cs) rs ks m q
+    → NeverAnOldDigit G p cs rs m q
+keeps_all G p made cs rs i ks n m q d e f h c =
+    keeps G p made cs rs ks m q d e
+    (subst₂ (λ (x : Mode) (xs : List Call). CallsMade G x made xs rs ks m q) f (take_all i cs h) c)
 
-pub pair_alike : {P Q : Type 0} (state : P → State) (does : P → Step → P → Type 0) (state' : Q → State) (does' : Q → Step → Q → Type 0)
+pub pair_alike : {P Q : Type 0} (G : Ghosts P) (H : Ghosts Q)
     (p : P) (q : Q) (cs : List Call) (rs qs : List (Result Answer Fault)) (m n : Mode) (u : P) (v : Q)
-    → NeverAnOldDigit state does p cs rs m u → NeverAnOldDigit state' does' q cs qs n v → HeardAlike (state p) (state' q) cs rs qs
-pair_alike state does state' does' p q cs rs qs m n u v h k alike quiet =
-    h.alike_starts_answer_alike (state' q) k.counts alike quiet k.admitted ∙ ap (all_heard cs) (sym k.answers_are_the_books)
+    → NeverAnOldDigit G p cs rs m u → NeverAnOldDigit H q cs qs n v → HeardAlike (G.state p) (H.state q) cs rs qs
+pair_alike G H p q cs rs qs m n u v h k alike quiet =
+    h.alike_starts_answer_alike (H.state q) k.counts alike quiet k.admitted ∙ ap (all_heard cs) (sym k.answers_are_the_books)
 
 -- THE BOOK IS SOUND
 
@@ -193,8 +194,8 @@ idle b c k o e g p w r h =
     let s = b.state in
     let zero-settle : k ≡ 0 = subst (λ (x : Rule). Admits x (length (line b c)) k) (ap (λ (x : Option Refusal). if_taken x (settles_by c) none) e ∙ r) h in
     ap (λ (x : Mode). book_of x (settle k (posted (joins b c) (mastered (masters b c) s)))) (ap (λ (x : Option Refusal). if_taken x (goes_to b.mode c) b.mode) e ∙ g)
-    ∙ ap (λ (x : List Write). book_of b.mode (settle k (posted x (mastered (masters b c) s)))) (ap (λ (x : Option Refusal). if_taken x (posts c) []) e ∙ p)
-    ∙ ap (λ (x : List Write). book_of b.mode (settle k (posted [] (mastered x s)))) (ap (λ (x : Option Refusal). if_taken x (masters_writes c) []) e ∙ w)
+    ∙ ap (λ (x : List Store). book_of b.mode (settle k (posted x (mastered (masters b c) s)))) (ap (λ (x : Option Refusal). if_taken x (posts c) []) e ∙ p)
+    ∙ ap (λ (x : List Store). book_of b.mode (settle k (posted [] (mastered x s)))) (ap (λ (x : Option Refusal). if_taken x (masters_writes c) []) e ∙ w)
     ∙ ap (λ (x : ℕ). book_of b.mode (settle x (posted [] s))) zero-settle
     ∙ ap (book_of b.mode) (settle_none s)
 

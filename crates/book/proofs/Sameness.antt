@@ -4,7 +4,7 @@ use Rattle.fault.specs.declared.Refusal.{Refusal}
 use Rattle.fault.specs.declared.Refusal.TheVariants.{PastEnd, Unreadable}
 use Rattle.calls.specs.declared.call.Call.{Call}
 use Rattle.calls.specs.declared.call.Call.TheVariants.{Read, Write as Post, Unposted, Advance, Lock, LockedRead, LockedWrite, Unlock, Ask, MasterRead, MasterWrite, Give, Snoop, Flush}
-use Rattle.port.specs.declared.Write.{Write}
+use Rattle.port.specs.declared.Store.{Store}
 use Rattle.port.specs.Lanes.{joined}
 use Rattle.port.specs.Memory.{Memory, State, line_of, stored, applied, seen}
 use Rattle.port.proofs.Settling.{applied-append}
@@ -29,13 +29,13 @@ pub record Like (b d : Book) : Type 0 where
   pub calm₂ : Calm d
 
 -- A word of memory after some writes depends on that word and on its line's mark alone.
-applied_local : (p q : ℕ → Bool) (a : ℕ) (ws : List Write) (m n : Memory) → p (line_of a) ≡ q (line_of a) → m.word a ≡ n.word a → (applied p ws m).word a ≡ (applied q ws n).word a
+applied_local : (p q : ℕ → Bool) (a : ℕ) (ws : List Store) (m n : Memory) → p (line_of a) ≡ q (line_of a) → m.word a ≡ n.word a → (applied p ws m).word a ≡ (applied q ws n).word a
 applied_local p q a [] m n e h = h
 applied_local p q a (w ∷ ws) m n e h =
     applied_local p q a ws (stored p w m) (stored q w n) e
     (ap₂ (λ (x : Bool) (v : ℕ). cond (eqb a w.word) (cond x v (joined w.lanes v w.value)) v) e h)
 
-pub applied_readable : (p : ℕ → Bool) (ws : List Write) (m : Memory) → (applied p ws m).readable ≡ m.readable
+pub applied_readable : (p : ℕ → Bool) (ws : List Store) (m : Memory) → (applied p ws m).readable ≡ m.readable
 applied_readable p [] m = refl
 applied_readable p (w ∷ ws) m = applied_readable p ws (stored p w m)
 
@@ -43,9 +43,9 @@ applied_readable p (w ∷ ws) m = applied_readable p ws (stored p w m)
 seen_step : (b : Book) (c : Call) (k : ℕ) → masters b c ≡ [] → seen (step b c k).state ≡ applied b.state.protected (joins b c) (seen b.state)
 seen_step b c k e =
     let p = b.state.protected in
-    ap (λ (ms : List Write). applied p (drop k (line b c)) (applied p (take k (line b c)) (applied p ms b.state.settled))) e
+    ap (λ (ms : List Store). applied p (drop k (line b c)) (applied p (take k (line b c)) (applied p ms b.state.settled))) e
     ∙ sym (applied-append p (take k (line b c)) (drop k (line b c)) b.state.settled)
-    ∙ ap (λ (ws : List Write). applied p ws b.state.settled) (take-append-drop k (line b c))
+    ∙ ap (λ (ws : List Store). applied p ws b.state.settled) (take-append-drop k (line b c))
     ∙ applied-append p b.state.waiting (joins b c) b.state.settled
 
 refused_alike : (b d : Book) (c : Call) → Like b d → refused b c ≡ refused d c
@@ -69,7 +69,7 @@ like_step b d c k j h e p q =
       content = λ a lt.
           ap (λ (m : Memory). m.word a) (seen_step b c k e)
           ∙ applied_local b.state.protected d.state.protected a (joins b c) (seen b.state) (seen d.state) (h.protected a lt) (h.content a lt)
-          ∙ ap (λ (ws : List Write). (applied d.state.protected ws (seen d.state)).word a) same
+          ∙ ap (λ (ws : List Store). (applied d.state.protected ws (seen d.state)).word a) same
           ∙ sym (ap (λ (m : Memory). m.word a) (seen_step d c j e'));
       calm₁ = calm_step b c k p h.calm₁;
       calm₂ = calm_step d c j q h.calm₂;
@@ -103,7 +103,7 @@ reading_alike m n w e f = ap₂ (λ (b : Bool) (v : ℕ). cond b (Ok (Word v)) (
 
 -- Where nothing waits, settled memory is the seen one.
 settled_seen : (s : State) → s.waiting ≡ [] → s.settled ≡ seen s
-settled_seen s e = ap (λ (ws : List Write). applied s.protected ws s.settled) (sym e)
+settled_seen s e = ap (λ (ws : List Store). applied s.protected ws s.settled) (sym e)
 
 -- A master's read is heard as done, or as refused.
 unheard : (x w u v : ℕ) (b : Bool) → heard (MasterRead w) (told x (MasterRead w) (cond b (Ok (Word u)) (Err Unreadable))) ≡ heard (MasterRead w) (told x (MasterRead w) (cond b (Ok (Word v)) (Err Unreadable)))

@@ -5,7 +5,7 @@ use Rattle.fault.specs.declared.Refusal.{Refusal}
 use Rattle.fault.specs.declared.Refusal.TheVariants.{Unreadable}
 use Rattle.calls.specs.declared.call.Call.{Call}
 use Rattle.calls.specs.declared.call.Call.TheVariants.{Read, Write as Post, Unposted, Advance, Lock, LockedRead, LockedWrite, Unlock, Ask, MasterRead, MasterWrite, Give, Snoop, Flush}
-use Rattle.port.specs.declared.Write.{Write}
+use Rattle.port.specs.declared.Store.{Store}
 use Rattle.port.specs.Memory.{Memory, State, applied, seen, posted, settling, drained}
 use Rattle.book.specs.declared.answer.Mode.{Mode}
 use Rattle.book.specs.declared.answer.Mode.TheVariants.{Free}
@@ -28,21 +28,21 @@ abbrev pub refused : Book → Call → Option Refusal
 refused b c = refusal b.mode b.state.facts.words c
 
 -- The line of waiting writes once the call's own has joined it.
-abbrev pub joins : Book → Call → List Write
+abbrev pub joins : Book → Call → List Store
 joins b c = if_taken (refused b c) (posts c) []
 
-abbrev pub line : Book → Call → List Write
+abbrev pub line : Book → Call → List Store
 line b c = b.state.waiting ++ joins b c
 
 -- A master's write goes past the line, and settles at once.
-abbrev pub masters : Book → Call → List Write
+abbrev pub masters : Book → Call → List Store
 masters b c = if_taken (refused b c) (masters_writes c) []
 
 -- The oldest k of the waiting writes settle.
 abbrev pub settle : ℕ → State → State
 settle k s = settling (take k s.waiting) (drop k s.waiting) s
 
-abbrev pub mastered : List Write → State → State
+abbrev pub mastered : List Store → State → State
 mastered ws s =
     record { facts = s.facts; protected = s.protected; settled = applied s.protected ws s.settled; waiting = s.waiting }
 

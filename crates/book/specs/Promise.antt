@@ -5,8 +5,9 @@ use Rattle.fault.specs.declared.Refusal.TheVariants.{Unreadable}
 use Rattle.calls.specs.declared.call.Call.{Call}
 use Rattle.calls.specs.declared.call.Call.TheVariants.{Read, LockedRead, Flush}
 use Rattle.port.specs.Lanes.{Lane, byte, covers}
+use Rattle.port.specs.declared.Port.{Ghosts}
 use Rattle.port.specs.Memory.{State, seen, applied, line_of}
-use Rattle.port.specs.Steps.{Step, Drains}
+use Rattle.port.specs.Steps.{Drains}
 use Rattle.book.specs.declared.answer.Mode.{Mode}
 use Rattle.book.specs.declared.answer.Mode.TheVariants.{Free, Locked}
 use Rattle.book.specs.declared.answer.Answer.{Answer}
@@ -82,27 +83,27 @@ pub record EachWriteSettlesOnce (start : State) (cs : List Call) (rs : List (Res
 -- THE CALLS MADE
 
 -- One call of the board after another, with how many writes settled at each.
-pub data CallsMade {P : Type 0} (state : P → State) (does : P → Step → P → Type 0) (m : Mode) (p : P) : List Call → List (Result Answer Fault) → List ℕ → Mode → P → Type 0 where
-  none_made : CallsMade state does m p [] [] [] m p
+pub data CallsMade {P : Type 0} (G : Ghosts P) (m : Mode) (p : P) : List Call → List (Result Answer Fault) → List ℕ → Mode → P → Type 0 where
+  none_made : CallsMade G m p [] [] [] m p
   one_more : {n o : Mode} {q u : P} {c : Call} {r : Result Answer Fault} {cs : List Call} {rs : List (Result Answer Fault)} {ks : List ℕ}
-      → CallsMade state does m p cs rs ks n q → (h : Called state does n q c r o u)
-      → CallsMade state does m p (cs ++ (c ∷ [])) (rs ++ (r ∷ [])) (ks ++ (h.count ∷ [])) o u
+      → CallsMade G m p cs rs ks n q → (h : Called G n q c r o u)
+      → CallsMade G m p (cs ++ (c ∷ [])) (rs ++ (r ∷ [])) (ks ++ (h.count ∷ [])) o u
 
 -- THE PROMISE of a run of the calls on a board made on the port p, and left in mode m on the port q
 
-pub record NeverAnOldDigit {P : Type 0} (state : P → State) (does : P → Step → P → Type 0) (p : P) (cs : List Call) (rs : List (Result Answer Fault)) (m : Mode) (q : P) : Type 0 where
+pub record NeverAnOldDigit {P : Type 0} (G : Ghosts P) (p : P) (cs : List Call) (rs : List (Result Answer Fault)) (m : Mode) (q : P) : Type 0 where
   -- the port once the board was made, and how many writes settled at each call: one list for all that follows
   pub made : P
   pub counts : List ℕ
-  pub drains : Drains state does p made
-  pub calls_made : CallsMade state does Free made cs rs counts m q
-  pub admitted : Admitted (first (state p)) cs counts
-  pub answers_are_the_books : rs ≡ answers (first (state p)) cs counts
-  pub ends_as_the_book : book_of m (state q) ≡ after (first (state p)) cs counts
-  pub reads_are_newest : ReadsAreNewest (state p) cs rs counts
-  pub alike_starts_answer_alike : AlikeStartsAnswerAlike (state p) cs rs
-  pub locked_memory_is_the_locks : LockedMemoryIsTheLocks (state p) cs rs counts
-  pub each_write_settles_once : EachWriteSettlesOnce (state p) cs rs counts
+  pub drains : Drains G.state G.does p made
+  pub calls_made : CallsMade G Free made cs rs counts m q
+  pub admitted : Admitted (first (G.state p)) cs counts
+  pub answers_are_the_books : rs ≡ answers (first (G.state p)) cs counts
+  pub ends_as_the_book : book_of m (G.state q) ≡ after (first (G.state p)) cs counts
+  pub reads_are_newest : ReadsAreNewest (G.state p) cs rs counts
+  pub alike_starts_answer_alike : AlikeStartsAnswerAlike (G.state p) cs rs
+  pub locked_memory_is_the_locks : LockedMemoryIsTheLocks (G.state p) cs rs counts
+  pub each_write_settles_once : EachWriteSettlesOnce (G.state p) cs rs counts
 
 -- Two runs of the same calls are heard alike if their ports began alike and no master's write was accepted.
 abbrev pub HeardAlike : State → State → List Call → List (Result Answer Fault) → List (Result Answer Fault) → Type 0

@@ -4,12 +4,12 @@ use Rattle.fault.specs.declared.Fault.{Fault}
 use Rattle.fault.specs.Numbers.{number_of}
 use Rattle.calls.specs.declared.call.Call.{Call}
 use Rattle.calls.specs.declared.call.Call.TheVariants.{Read, Write as Post, Unposted, Advance, Lock, LockedRead, LockedWrite, Unlock, Ask, MasterRead, MasterWrite, Give, Snoop, Flush}
-use Rattle.port.specs.declared.Write.{Write}
+use Rattle.port.specs.declared.Store.{Store}
 use Rattle.port.specs.Memory.{line_of}
 use Rattle.book.specs.declared.answer.Mode.TheVariants.{Locked}
 use Rattle.book.specs.declared.answer.Answer.{Answer}
 use Rattle.book.specs.declared.answer.Answer.TheVariants.{Done}
-use Rattle.book.specs.Tables.{posts, masters_writes, write_of}
+use Rattle.book.specs.Tables.{posts, masters_writes}
 use Rattle.book.specs.Book.{Book, step, answer, Allowed}
 
 -- THE BOOK, call after call, with one count for each
@@ -38,13 +38,13 @@ if_ok (Err fault) xs = []
 
 -- A write, and whether its line was protected when it was taken.
 pub record Entry : Type 0 where
-  pub write : Write
+  pub write : Store
   pub protected : Bool
 
-abbrev pub entry_of : (ℕ → Bool) → Write → Entry
+abbrev pub entry_of : (ℕ → Bool) → Store → Entry
 entry_of p w = record { write = w; protected = p (line_of w.word) }
 
-abbrev pub marked : (ℕ → Bool) → List Write → List Entry
+abbrev pub marked : (ℕ → Bool) → List Store → List Entry
 marked p [] = []
 marked p (w ∷ ws) = entry_of p w ∷ marked p ws
 
@@ -91,14 +91,14 @@ Quiet (c ∷ cs) [] = Unit {0}
 Quiet (c ∷ cs) (r ∷ rs) = (if_ok r (masters_writes c) ≡ []) × Quiet cs rs
 
 -- The write of the holder of the lock that a call brings.
-abbrev pub locks_writes : Call → List Write
+abbrev pub locks_writes : Call → List Store
 locks_writes (Read w) = []
 locks_writes (Post s) = []
 locks_writes (Unposted s) = []
 locks_writes Advance = []
 locks_writes Lock = []
 locks_writes (LockedRead w) = []
-locks_writes (LockedWrite s) = write_of s ∷ []
+locks_writes (LockedWrite s) = s ∷ []
 locks_writes Unlock = []
 locks_writes Ask = []
 locks_writes (MasterRead w) = []
@@ -107,7 +107,7 @@ locks_writes Give = []
 locks_writes (Snoop w) = []
 locks_writes Flush = []
 
-abbrev pub locked_writes : List Call → List (Result Answer Fault) → List Write
+abbrev pub locked_writes : List Call → List (Result Answer Fault) → List Store
 locked_writes [] rs = []
 locked_writes (c ∷ cs) [] = []
 locked_writes (c ∷ cs) (r ∷ rs) = if_ok r (locks_writes c) ++ locked_writes cs rs

@@ -7,11 +7,10 @@ use Rattle.calls.specs.declared.call.Call.{Call}
 use Rattle.calls.specs.declared.call.Call.TheVariants.{Read, Write as Post, Unposted, Advance, Lock, LockedRead, LockedWrite, Unlock, Ask, MasterRead, MasterWrite, Give, Snoop, Flush}
 use Rattle.calls.specs.declared.call.Cargo.{Cargo}
 use Rattle.calls.specs.declared.call.Cargo.TheVariants.{Nothing, Word as OfWord, Store as OfStore}
-use Rattle.calls.specs.declared.call.Store.{Store}
 use Rattle.calls.specs.Calls.{cargo_of}
-use Rattle.port.specs.declared.Write.{Write}
+use Rattle.port.specs.declared.Store.{Store}
 use Rattle.port.specs.Memory.{floor_above}
-use Rattle.port.specs.Meaning.{laned, writing}
+use Rattle.port.specs.Meaning.{laned}
 use Rattle.book.specs.declared.answer.Mode.{Mode}
 use Rattle.book.specs.declared.answer.Mode.TheVariants.{Free, Locked, Granted}
 
@@ -100,18 +99,15 @@ abbrev pub if_taken : {X : Type 0} → Option Refusal → X → X → X
 if_taken None taken refused = taken
 if_taken (Some r) taken refused = refused
 
-abbrev pub write_of : Store → Write
-write_of s = writing s.word s.lanes s.value
-
 -- The processor's write that a call brings.
-abbrev pub posts : Call → List Write
+abbrev pub posts : Call → List Store
 posts (Read w) = []
-posts (Post s) = write_of s ∷ []
-posts (Unposted s) = write_of s ∷ []
+posts (Post s) = s ∷ []
+posts (Unposted s) = s ∷ []
 posts Advance = []
 posts Lock = []
 posts (LockedRead w) = []
-posts (LockedWrite s) = write_of s ∷ []
+posts (LockedWrite s) = s ∷ []
 posts Unlock = []
 posts Ask = []
 posts (MasterRead w) = []
@@ -121,7 +117,7 @@ posts (Snoop w) = []
 posts Flush = []
 
 -- The master's write that a call brings.
-abbrev pub masters_writes : Call → List Write
+abbrev pub masters_writes : Call → List Store
 masters_writes (Read w) = []
 masters_writes (Post s) = []
 masters_writes (Unposted s) = []
@@ -132,7 +128,7 @@ masters_writes (LockedWrite s) = []
 masters_writes Unlock = []
 masters_writes Ask = []
 masters_writes (MasterRead w) = []
-masters_writes (MasterWrite s) = write_of s ∷ []
+masters_writes (MasterWrite s) = s ∷ []
 masters_writes Give = []
 masters_writes (Snoop w) = []
 masters_writes Flush = []

@@ -1,7 +1,7 @@
 -- Whatever is no read goes through a cache.
 use Rattle.std.proofs.Common.{◌≡◌, ℕ, zero, suc, Bool, true, false, cond, List, [], ◌∷◌, ◌++◌, Some, None, Ok, Err, Option, Result, sym, refl, ap, ◌∙◌, subst, ap₂, append_assoc}
 use Rattle.fault.specs.declared.Fault.{Fault}
-use Rattle.port.specs.Memory.{State}
+use Rattle.port.specs.declared.Port.{Ghosts}
 use Rattle.port.specs.Meaning.{within, ByAnswer}
 use Rattle.port.specs.Steps.{Step, reads, writes, advances, outsides, snoops, flushes, done, then}
 use Rattle.directory.specs.declared.fills.Fill.{Fill}
@@ -58,30 +58,30 @@ ready_reads v t line = by_test (fills_open t.fill line)
 
 -- ---- one call, and many
 
-module _ {P : Type 0} (state : P → State) (does : P → Step → P → Type 0) where
-  takes_through : (t : Turn) (ds : List Step) (b c : Cache P) → passed t.calls ≡ ds → TakesTurn does t b c → Below does ds b c
+module _ {P : Type 0} {G : Ghosts P} where
+  takes_through : (t : Turn) (ds : List Step) (b c : Cache P G) → passed t.calls ≡ ds → TakesTurn t b c → Below ds b c
   takes_through t ds b c e h = record { calls = t.calls; chain = h.below; through = e }
 
-  untouched : (b c : Cache P) → c ≡ b → Below does [] b c
-  untouched b c e = let F : Cache P → Type 0 = λ x. Below does [] b x in subst F (sym e) (record { calls = []; chain = done; through = refl })
+  untouched : (b c : Cache P G) → c ≡ b → Below [] b c
+  untouched b c e = let F : Cache P G → Type 0 = λ x. Below [] b x in subst F (sym e) (record { calls = []; chain = done; through = refl })
 
-  read_through : (w : ℕ) (r : Result (Unit {0}) Fault) (b c : Cache P) → ByAnswer r (TakesTurn does (read_turn (shows_below state b) (tables_of b) w) b c) (c ≡ b) → Below does [] b c
-  read_through w (Ok _) b c h = takes_through _ _ b c (read_reads (shows_below state b) (tables_of b) w) h
+  read_through : (w : ℕ) (r : Result (Unit {0}) Fault) (b c : Cache P G) → ByAnswer r (TakesTurn (read_turn (shows_below b) (tables_of b) w) b c) (c ≡ b) → Below [] b c
+  read_through w (Ok _) b c h = takes_through _ _ b c (read_reads (shows_below b) (tables_of b) w) h
   read_through w (Err _) b c h = untouched b c h
 
-  step_through : (d : Step) (b c : Cache P) → Does state does b d c → Below does (passed_by d) b c
-  step_through (reads w r) b c h = read_through w (within w (state b.below).facts.words (state b.below).facts.floor) b c h
+  step_through : (d : Step) (b c : Cache P G) → Does b d c → Below (passed_by d) b c
+  step_through (reads w r) b c h = read_through w (within w (G.state b.below).facts.words (G.state b.below).facts.floor) b c h
   step_through (writes w (Ok _)) b c h =
-      takes_through _ _ b c (after_reads (ready_turn (shows_below state b) (tables_of b) (line_of w.word)).calls (writes w (Ok tt) ∷ []) (ready_reads (shows_below state b) (tables_of b) (line_of w.word))) h
+      takes_through _ _ b c (after_reads (ready_turn (shows_below b) (tables_of b) (line_of w.word)).calls (writes w (Ok tt) ∷ []) (ready_reads (shows_below b) (tables_of b) (line_of w.word))) h
   step_through (writes w (Err _)) b c h = untouched b c h
-  step_through advances b c h = takes_through _ _ b c (after_reads (fetch_calls (shows_below state b) (tables_of b).fill) (advances ∷ []) (fetch_reads (shows_below state b) (tables_of b).fill)) h
+  step_through advances b c h = takes_through _ _ b c (after_reads (fetch_calls (shows_below b) (tables_of b).fill) (advances ∷ []) (fetch_reads (shows_below b) (tables_of b).fill)) h
   step_through (outsides w (Ok _)) b c h = takes_through _ _ b c refl h
   step_through (outsides w (Err _)) b c h = untouched b c h
   step_through (snoops w (Ok _)) b c h = takes_through _ _ b c refl h
   step_through (snoops w (Err _)) b c h = untouched b c h
   step_through flushes b c h = takes_through _ _ b c refl h
 
-  pub only_reads_are_kept : OnlyReadsAreKept state does
+  pub only_reads_are_kept : OnlyReadsAreKept G
   only_reads_are_kept b c [] done = untouched b b refl
   only_reads_are_kept b c (d ∷ ds) (then {q = m} h k) =
       let one = step_through d b m h in

@@ -1,29 +1,31 @@
 //! The stage itself: tables over any port, which is a port again.
-ghost use Rattle.std.specs.Prelude.{◌≡◌, ◌<◌, ◌≤◌, false, None};
-ghost use Rattle.port.specs.Memory.{floor_above, raised};
-ghost use Rattle.port.specs.Meaning.{Settles};
-ghost use Rattle.directory.specs.Dirs.{line_of, found, valid_ways};
-ghost use Rattle.cache_tables.specs.Showing.{reading};
-ghost use Rattle.cache_tables.specs.Rules.{cleared, fetch_turn, finish_turn, miss_turn, fills_open, ready_turn};
-ghost use Rattle.cache.specs.Doing.{shows_below, tables_of, inspect_answer, Sound, TakesTurn, Does};
-ghost use Rattle.cache_tables.specs.Laws.{CachingIsLawful};
-ghost use Rattle.cache_tables.specs.Examples.{WorkedExamples};
-ghost use Rattle.cache.specs.Runs.{OnlyReadsAreKept};
+ghost use Rattle.cache_tables.specs.Showing.{shown};
+ghost use Rattle.cache_tables.specs.Rules.{model};
+ghost use Rattle.cache_tables.specs.Coherence.{Coherent};
 
 use cache_tables::Tables;
 use directory::WayState;
 use fault::{Fault, Refusal};
-use port::{Port, check_range, check_write};
+use port::{Port, Store, check_range, check_write};
 
 /// A port that keeps lines of the port below.
 #[derive(Drop)]
 pub struct Cache<P: Port> {
     below: P,
     tables: Tables,
+    // The tables hold what is seen below.
+    pub ghost coherent: { Coherent (shown (P.state below)) (model tables) },
 }
 
 impl<P: Port> Cache<P> {
-    /// TakesTurn the cache apart. The port below is as it was, and nothing settles.
+    ghost use Rattle.std.specs.Prelude.{◌≡◌, ◌<◌, false, None};
+    ghost use Rattle.port.specs.Meaning.{Settles};
+    ghost use Rattle.directory.specs.Dirs.{line_of, found};
+    ghost use Rattle.cache_tables.specs.Showing.{reading};
+    ghost use Rattle.cache_tables.specs.Rules.{fetch_turn, finish_turn, miss_turn, fills_open, ready_turn};
+    ghost use Rattle.cache.specs.Doing.{shows_below, tables_of, TakesTurn};
+
+    /// Takes the cache apart. The port below is as it was, and nothing settles.
     pub fn into_below(self) -> P
         ensures { result ≡ self.below }
     {
@@ -31,12 +33,12 @@ impl<P: Port> Cache<P> {
         below
     }
 
+    // Each of these four says what it did below and to the tables; that what was read settled some writes is one clause of each.
+
     // Fetches the next word of the line under fill, if there is one.
     fn fetch_one(&mut self)
-        requires { Sound P.state P.sound self.old }
-        ensures sound { Sound P.state P.sound self.new }
         ensures after { Settles (P.state self.old.below) (P.state self.new.below) }
-        ensures did { TakesTurn P.does (fetch_turn (shows_below P.state self.old) (tables_of self.old)) self.old self.new }
+        ensures did { TakesTurn (fetch_turn (shows_below self.old) (tables_of self.old)) self.old self.new }
     {
         if let Some(fill) = self.tables.fill {
             match self.below.read(fill.next_word()) {
@@ -48,10 +50,8 @@ impl<P: Port> Cache<P> {
 
     // Finishes the fill under way, if there is one.
     fn finish(&mut self)
-        requires { Sound P.state P.sound self.old }
-        ensures sound { Sound P.state P.sound self.new }
         ensures after { Settles (P.state self.old.below) (P.state self.new.below) }
-        ensures did { TakesTurn P.does (finish_turn (shows_below P.state self.old) (tables_of self.old)) self.old self.new }
+        ensures did { TakesTurn (finish_turn (shows_below self.old) (tables_of self.old)) self.old self.new }
     {
         while self.tables.is_filling() {
             self.fetch_one();
@@ -60,14 +60,12 @@ impl<P: Port> Cache<P> {
 
     // Reads a word below that the tables do not hold, and begins a fill of its line if that may be cached.
     fn miss(&mut self, word: u32) -> Result<u16, Fault>
-        requires sound { Sound P.state P.sound self.old }
         requires idle { self.old.tables.fill ≡ None }
         requires absent { found (tables_of self.old).dir (line_of word) ≡ None }
         requires inside { word < (P.state self.old.below).facts.words }
-        ensures sound { Sound P.state P.sound self.new }
-        ensures value { result ≡ reading (shows_below P.state self.old) word }
+        ensures value { result ≡ reading (shows_below self.old) word }
         ensures after { Settles (P.state self.old.below) (P.state self.new.below) }
-        ensures did { TakesTurn P.does (miss_turn (shows_below P.state self.old) (tables_of self.old).dir word) self.old self.new }
+        ensures did { TakesTurn (miss_turn (shows_below self.old) (tables_of self.old).dir word) self.old self.new }
     {
         let value = self.below.read(word)?;
         let (cacheable, protect) = self.below.marks(word / 8)?;
@@ -79,10 +77,8 @@ impl<P: Port> Cache<P> {
 
     // Before a write to a line: finishes a fill of it, unless the line is protected.
     fn make_ready(&mut self, line: u32)
-        requires { Sound P.state P.sound self.old }
-        ensures sound { Sound P.state P.sound self.new }
         ensures after { Settles (P.state self.old.below) (P.state self.new.below) }
-        ensures did { TakesTurn P.does (ready_turn (shows_below P.state self.old) (tables_of self.old) line) self.old self.new }
+        ensures did { TakesTurn (ready_turn (shows_below self.old) (tables_of self.old) line) self.old self.new }
         ensures closed { fills_open self.new.tables.fill line ≡ false }
     {
         if self.tables.fills_open(line) {
@@ -92,15 +88,22 @@ impl<P: Port> Cache<P> {
 }
 
 impl<P: Port> Cache<P> {
+    ghost use Rattle.std.specs.Prelude.{◌≡◌, ◌≤◌};
+    ghost use Rattle.port.specs.Memory.{floor_above};
+    ghost use Rattle.directory.specs.Dirs.{valid_ways};
+    ghost use Rattle.cache_tables.specs.Rules.{cleared};
+    ghost use Rattle.cache_tables.specs.Laws.{CachingIsLawful};
+    ghost use Rattle.cache_tables.specs.Examples.{WorkedExamples};
+    ghost use Rattle.cache.specs.Doing.{tables_of, inspect_answer};
+    ghost use Rattle.cache.specs.Runs.{OnlyReadsAreKept};
+
     /// A cache over a port, with no valid way, no mark and no fill.
     pub fn new(below: P) -> Cache<P>
-        requires { P.sound below }
-        ensures sound { Sound P.state P.sound result }
         ensures below { result.below ≡ below }
         ensures tables { tables_of result ≡ cleared }
         ensures law { CachingIsLawful }
         ensures examples { WorkedExamples }
-        ensures run { OnlyReadsAreKept P.state P.does }
+        ensures run { OnlyReadsAreKept P.Port }
     {
         // A port tells with its size that it consists of whole lines, which the tables rest on.
         let _ = below.words();
@@ -110,19 +113,15 @@ impl<P: Port> Cache<P> {
         }
     }
 
-    /// What stands in a way of a set.
+    /// What stands in a way of a set. Both are numbers, since any number is answered.
     pub fn inspect(&self, set: u32, way: u32) -> Result<WayState, Fault>
-        requires { Sound P.state P.sound self.now }
         ensures { result ≡ inspect_answer (tables_of self.now).dir (floor_above (P.state self.now.below).facts.floor) set way }
     {
-        match self.tables.directory.inspect(set, way) {
-            Some(told) => Ok(told),
-            None => Err(Fault {
-                refusal: Refusal::PastEnd,
-                place: set,
-                floor: self.floor(),
-            }),
-        }
+        self.tables.directory.inspect(set, way).ok_or(Fault {
+            refusal: Refusal::PastEnd,
+            place: set,
+            floor: self.floor(),
+        })
     }
 
     /// How many ways are valid.
@@ -134,12 +133,15 @@ impl<P: Port> Cache<P> {
     }
 }
 
+// What is only passed on to the port below takes a line each here and in the write buffer: a trait of stages, with the port below as one of
+// its methods, would have more clauses than that.
 impl<P: Port> Port for Cache<P> {
+    ghost use Rattle.port.specs.Memory.{raised};
+    ghost use Rattle.cache.specs.Doing.{Does};
+
     ghost state = { λ c. raised (P.state c.below) };
 
-    ghost sound = { λ c. Sound P.state P.sound c };
-
-    ghost does = { λ b d c. Does P.state P.does b d c };
+    ghost does = { Does };
 
     fn words(&self) -> u32 {
         self.below.words()
@@ -173,11 +175,11 @@ impl<P: Port> Port for Cache<P> {
         self.miss(word)
     }
 
-    fn write(&mut self, word: u32, lanes: u8, value: u16) -> Result<(), Fault> {
-        check_write(word, lanes, self.words(), self.floor())?;
-        self.make_ready(word / 8);
-        self.tables.change(word, lanes, value);
-        self.below.write(word, lanes, value)
+    fn write(&mut self, write: Store) -> Result<(), Fault> {
+        check_write(write, self.words(), self.floor())?;
+        self.make_ready(write.word / 8);
+        self.tables.change(write);
+        self.below.write(write)
     }
 
     fn advance(&mut self) {
@@ -190,11 +192,10 @@ impl<P: Port> Port for Cache<P> {
         self.below.settled_read(word)
     }
 
-    fn outside_write(&mut self, word: u32, lanes: u8, value: u16) -> Result<(), Fault> {
-        check_write(word, lanes, self.words(), self.floor())?;
-        let line = word / 8;
-        self.tables.drop_line(line);
-        self.below.outside_write(word, lanes, value)
+    fn outside_write(&mut self, write: Store) -> Result<(), Fault> {
+        check_write(write, self.words(), self.floor())?;
+        self.tables.drop_line(write.word / 8);
+        self.below.outside_write(write)
     }
 
     fn snoop(&mut self, word: u32) -> Result<(), Fault> {

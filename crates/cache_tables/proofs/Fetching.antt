@@ -13,7 +13,7 @@ use Rattle.directory.specs.Dirs.{Dir, installed}
 use Rattle.directory.specs.Ticks.{next_word, complete, stored}
 use Rattle.cache_tables.specs.Showing.{Shown, shown, shown_as, reading}
 use Rattle.cache_tables.specs.Rules.{Model, idle, stowed, fetched_of, fetched, fetch_calls, finished_of, finished, lacking, fetches, finish_calls}
-use Rattle.cache_tables.specs.Coherence.{Sees, Filling, FillKept, Coherent}
+use Rattle.cache_tables.specs.Coherence.{Sees, Filling, Coherent}
 use Rattle.cache_tables.proofs.Keeping.{fetch_keeps, fetch_finishes, count_more, next_inside}
 
 -- settling never shows
@@ -34,13 +34,13 @@ read_ok v w x = by_test (v.readable w)
   where
     by_test : (t : Bool) → ◌≡◌ {A = Result ℕ Fault} (Ok x) (cond t (Ok (v.word w)) (Err (unreadable w))) → (t ≡ true) × (x ≡ v.word w)
     by_test true e = (refl, (cc))
-    by_test false e = let z : ◌≡◌ {A = ℕ} 0 1 = cc in absurd (omega arith)
+    by_test false e = absurd (cc)
 
 pub read_err : (v : Shown) (w : ℕ) (x : Fault) → Err x ≡ reading v w → v.readable w ≡ false
 read_err v w x = by_test (v.readable w)
   where
     by_test : (t : Bool) → ◌≡◌ {A = Result ℕ Fault} (Err x) (cond t (Ok (v.word w)) (Err (unreadable w))) → t ≡ false
-    by_test true e = let z : ◌≡◌ {A = ℕ} 0 1 = cc in absurd (omega arith)
+    by_test true e = absurd (cc)
     by_test false e = refl
 
 pub chain_as : {P : Type 0} {does : P → Step → P → Type 0} {p q : P} (ds es : List Step) → es ≡ ds → Chain does p ds q → Chain does p es q
@@ -53,7 +53,7 @@ one_read w x r a e h d = chain_as (reads w r ∷ []) (reads x a ∷ []) (ap₂ (
 
 module _ (v : Shown) (d : Dir) (f : Option Fill) (b : Fill) (is : f ≡ Some b) (c : Coherent v (record { dir = d; fill = f })) where
   pub filling : Filling v d b
-  filling = subst (λ (y : Option Fill). FillKept v d y) is c.fill
+  filling = c.fill b is
 
   fetch_at : (t : Bool) → v.readable (next_word b) ≡ t → cond t (stowed d (stored b (v.word (next_word b)))) (idle d) ≡ fetched_of v d f
   fetch_at t e =
@@ -102,12 +102,12 @@ module _ (v : Shown) (d : Dir) (b : Fill) (c : Coherent v (record { dir = d; fil
   fetch_falls = by_read (v.readable (next_word b)) refl
     where
       by_full : (full : Bool) → v.readable (next_word b) ≡ true → lacking (cond full (idle (installed d b.line b.way b.protect next.words)) (record { dir = d; fill = Some next })).fill < 8 - ones b.ticks
-      by_full true e = omega (arith, c.fill.under.short)
-      by_full false e = omega (arith, c.fill.under.short, count_more v d b c.fill e)
+      by_full true e = omega (arith, (c.fill b refl).under.short)
+      by_full false e = omega (arith, (c.fill b refl).under.short, count_more v d b (c.fill b refl) e)
 
       by_read : (r : Bool) → v.readable (next_word b) ≡ r → lacking (cond r (stowed d next) (idle d)).fill < 8 - ones b.ticks
       by_read true e = by_full (complete next) e
-      by_read false e = omega (arith, c.fill.under.short)
+      by_read false e = omega (arith, (c.fill b refl).under.short)
 
   -- the rest of the fetches are those of the fill as it then is
   rest : fetches (7 - ones b.ticks) v (fetched_of v d (Some b)) ≡ finish_calls v (fetched_of v d (Some b))
@@ -118,7 +118,7 @@ module _ (v : Shown) (d : Dir) (b : Fill) (c : Coherent v (record { dir = d; fil
           finish_calls v (cond full (idle (installed d b.line b.way b.protect next.words)) (record { dir = d; fill = Some next }))
       by_full true e = fetches_none (7 - ones b.ticks) v (installed d b.line b.way b.protect next.words)
       by_full false e =
-          let same : 7 - ones b.ticks ≡ 8 - ones next.ticks = omega (arith, count_more v d b c.fill e) in
+          let same : 7 - ones b.ticks ≡ 8 - ones next.ticks = omega (arith, count_more v d b (c.fill b refl) e) in
           ap (λ (n : ℕ). fetches n v (record { dir = d; fill = Some next })) same
 
       by_read : (r : Bool) → v.readable (next_word b) ≡ r → fetches (7 - ones b.ticks) v (cond r (stowed d next) (idle d)) ≡ finish_calls v (cond r (stowed d next) (idle d))
@@ -127,7 +127,7 @@ module _ (v : Shown) (d : Dir) (b : Fill) (c : Coherent v (record { dir = d; fil
 
   fetch_first : finish_calls v (record { dir = d; fill = Some b }) ≡ fetch_calls v (Some b) ++ finish_calls v (fetched_of v d (Some b))
   fetch_first =
-      let more : 8 - ones b.ticks ≡ suc (7 - ones b.ticks) = omega (arith, c.fill.under.short) in
+      let more : 8 - ones b.ticks ≡ suc (7 - ones b.ticks) = omega (arith, (c.fill b refl).under.short) in
       ap (λ (n : ℕ). fetches n v (record { dir = d; fill = Some b })) more ∙ ap (λ (l : List Step). fetch_calls v (Some b) ++ l) rest
 
 pub fetch_less : (v : Shown) (d : Dir) (f : Option Fill) (n : Model) → Coherent v (record { dir = d; fill = f }) → n ≡ fetched_of v d f → is_some f ≡ true → lacking n.fill < lacking f

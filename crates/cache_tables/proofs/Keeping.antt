@@ -5,43 +5,46 @@ use Rattle.std.proofs.lemmas.Bool.{cases_eq, eq-eqb, eqb-true, eqb-false, and_pa
 use Rattle.directory.specs.declared.marks.WayNumber.{WayNumber}
 use Rattle.directory.specs.declared.sets.Way.{Way}
 use Rattle.directory.specs.declared.fills.Fill.{Fill}
-use Rattle.directory.specs.Touch.{index_of, same_way}
-use Rattle.directory.specs.Sets.{filled_way, masked}
+use Rattle.directory.specs.Touch.{same_way}
+use Rattle.directory.specs.Sets.{filled_way}
 use Rattle.directory.specs.Dirs.{Dir, line_of, place_of, set_of, tag_of, put, touched, found, installed}
 use Rattle.directory.specs.Ticks.{ticked, ticks_after, next_place, next_word, complete, stored, fetched_word}
 use Rattle.directory.proofs.Apart.{apart_installed}
-use Rattle.directory.proofs.Touching.{index_injective}
 use Rattle.directory.proofs.Ticking.{next_small, stored_count, stored_ordered, store_adds, ticked_all}
 use Rattle.cache_tables.specs.Showing.{Shown, line_seen, whole}
 use Rattle.cache_tables.specs.Rules.{idle, stowed, fetched_of, finished_of, finished}
 use Rattle.cache_tables.specs.Coherence.{Sees, WayKept, Filling, FillKept, Coherent}
 use Rattle.cache_tables.proofs.Lines.{eight_is, all_from, not_all, line_set}
 
--- the numbers of two ways are the same, and so are the ways
-pub same_way_lem : (j k : WayNumber) → same_way j k ≡ true → j ≡ k
-same_way_lem j k e = index_injective j k (eqb-true (index_of j) (index_of k) e)
+-- what holds of the value that is there holds of it under another name
+pub given : {X : Type 0} (P : X → Type 0) (x y : X) → Some x ≡ Some y → P x → P y
+given P x y e h = let same : x ≡ y = cc in subst P same h
 
 -- a way is put: what holds of the others and of it holds of all
-pub ways_put : (P : ℕ → Way → Type 0) (d : Dir) (i : ℕ) (k : WayNumber) (y : Way) →
-    ((j : ℕ) (l : WayNumber) → (eqb j i && same_way l k) ≡ false → (d.way j l).valid ≡ true → P j (d.way j l)) → ((masked y).valid ≡ true → P i (masked y)) →
-    (j : ℕ) (l : WayNumber) → ((put d i k y).way j l).valid ≡ true → P j ((put d i k y).way j l)
-ways_put P d i k y a b j l = by_test (eqb j i && same_way l k) refl
+pub ways_put : (P : ℕ → Way → Type 0) (d : Dir) (i : ℕ) (k : WayNumber) (o : Option Way) →
+    ((j : ℕ) (l : WayNumber) (y : Way) → (eqb j i && same_way l k) ≡ false → d.way j l ≡ Some y → P j y) → ((y : Way) → o ≡ Some y → P i y) →
+    (j : ℕ) (l : WayNumber) (y : Way) → (put d i k o).way j l ≡ Some y → P j y
+ways_put P d i k o a b j l y = by_test (eqb j i && same_way l k) refl
   where
-    by_test : (t : Bool) → (eqb j i && same_way l k) ≡ t → (cond t (masked y) (d.way j l)).valid ≡ true → P j (cond t (masked y) (d.way j l))
-    by_test true e h = subst (λ (x : ℕ). P x (masked y)) (sym (eqb-true j i (and_parts (eqb j i) (same_way l k) e).0)) (b h)
-    by_test false e h = a j l e h
+    by_test : (t : Bool) → (eqb j i && same_way l k) ≡ t → cond t o (d.way j l) ≡ Some y → P j y
+    by_test true e h = subst (λ (x : ℕ). P x y) (sym (eqb-true j i (and_parts (eqb j i) (same_way l k) e).0)) (b y h)
+    by_test false e h = a j l y e h
+
+-- no fill is under way
+pub no_filling : (v : Shown) (d : Dir) → FillKept v d None
+no_filling v d b e = absurd (cc)
 
 -- the fill is given up
 pub abandon : (v : Shown) (d : Dir) (f : Option Fill) → Coherent v (record { dir = d; fill = f }) → Coherent v (idle d)
-abandon v d f c = record { few = c.few; lined = c.lined; ways = c.ways; apart = c.apart; fill = tt }
+abandon v d f c = record { few = c.few; lined = c.lined; ways = c.ways; apart = c.apart; fill = no_filling v d }
+
+-- a fill goes on where its line is still in no way
+pub still_filling : (v : Shown) (d e : Dir) (b : Fill) → found e b.line ≡ found d b.line → Filling v d b → Filling v e b
+still_filling v d e b same h = record { under = h.under; inside = h.inside; cached = h.cached; shut = h.shut; got = h.got; absent = same ∙ h.absent }
 
 -- a touch leaves the ways
-pub touch_fill : (v : Shown) (d : Dir) (f : Option Fill) (i : ℕ) (k : WayNumber) → FillKept v d f → FillKept v (touched d i k) f
-touch_fill v d None i k h = tt
-touch_fill v d (Some b) i k h = record { under = h.under; inside = h.inside; cached = h.cached; shut = h.shut; got = h.got; absent = h.absent }
-
 pub touch : (v : Shown) (d : Dir) (f : Option Fill) (i : ℕ) (k : WayNumber) → Coherent v (record { dir = d; fill = f }) → Coherent v (record { dir = touched d i k; fill = f })
-touch v d f i k c = record { few = c.few; lined = c.lined; ways = c.ways; apart = c.apart; fill = touch_fill v d f i k c.fill }
+touch v d f i k c = record { few = c.few; lined = c.lined; ways = c.ways; apart = c.apart; fill = λ b e. still_filling v d (touched d i k) b refl (c.fill b e) }
 
 -- ---- a whole line goes into a way
 
@@ -59,23 +62,15 @@ pub install : (v : Shown) (d : Dir) (f : Option Fill) (l : ℕ) (k : WayNumber) 
 install v d f l k p ws c absent kept = record {
   few = c.few;
   lined = c.lined;
-  ways = ways_put (WayKept v) d (set_of l) k (filled_way (tag_of l) p ws) (λ j m _. c.ways j m) (λ _. kept);
+  ways = ways_put (WayKept v) d (set_of l) k (Some (filled_way (tag_of l) p ws)) (λ j m y _. c.ways j m y) (λ y e. given (WayKept v (set_of l)) (filled_way (tag_of l) p ws) y e kept);
   apart = apart_installed d l k p ws c.apart absent;
-  fill = tt;
+  fill = no_filling v (installed d l k p ws);
 }
 
 pub install_fill : (v : Shown) (d : Dir) (f : Option Fill) (b : Fill) (ws : List ℕ) → Coherent v (record { dir = d; fill = f }) → b.line * 8 + 8 ≤ v.words → b.protect ≡ v.protected b.line →
     found d b.line ≡ None → ws ≡ line_seen v b.line → whole v b.line ≡ true → Coherent v (idle (installed d b.line b.way b.protect ws))
 install_fill v d f b ws c inside shut absent same legible =
     install v d f b.line b.way b.protect ws c absent (kept_line v b.line b.protect ws inside shut same legible)
-
-pub finish_keeps : (v : Shown) (d : Dir) (f : Option Fill) → Coherent v (record { dir = d; fill = f }) → Coherent v (finished_of v d f)
-finish_keeps v d None c = abandon v d None c
-finish_keeps v d (Some b) c = by_test (whole v b.line) refl
-  where
-    by_test : (t : Bool) → whole v b.line ≡ t → Coherent v (idle (cond t (installed d b.line b.way b.protect (line_seen v b.line)) d))
-    by_test true e = install_fill v d (Some b) b (line_seen v b.line) c c.fill.inside c.fill.shut c.fill.absent refl e
-    by_test false e = abandon v d (Some b) c
 
 -- ---- one word comes
 
@@ -142,17 +137,17 @@ module _ (v : Shown) (d : Dir) (b : Fill) (c : Coherent v (record { dir = d; fil
   pub stow_keeps : v.readable (next_word b) ≡ true → (t : Bool) → complete next ≡ t → Coherent v (cond t (idle (installed d b.line b.way b.protect next.words)) (record { dir = d; fill = Some next }))
   stow_keeps r true e =
       let full = eqb-true (ones next.ticks) 8 e in
-      install_fill v d (Some b) next next.words c c.fill.inside c.fill.shut c.fill.absent (words_full v d b c.fill r full) (whole_full v d b c.fill r full)
+      install_fill v d (Some b) next next.words c (c.fill b refl).inside (c.fill b refl).shut (c.fill b refl).absent (words_full v d b (c.fill b refl) r full) (whole_full v d b (c.fill b refl) r full)
   stow_keeps r false e =
-      let n : ones next.ticks < 8 = omega (arith, count_more v d b c.fill r, c.fill.under.short, eqb-false (ones next.ticks) 8 e) in
-      record { few = c.few; lined = c.lined; ways = c.ways; apart = c.apart; fill = filling_more v d b c.fill r n }
+      let n : ones next.ticks < 8 = omega (arith, count_more v d b (c.fill b refl) r, (c.fill b refl).under.short, eqb-false (ones next.ticks) 8 e) in
+      record { few = c.few; lined = c.lined; ways = c.ways; apart = c.apart; fill = λ a same. given (Filling v d) next a same (filling_more v d b (c.fill b refl) r n) }
 
   pub stow_finishes : v.readable (next_word b) ≡ true → (t : Bool) → complete next ≡ t →
       finished v (cond t (idle (installed d b.line b.way b.protect next.words)) (record { dir = d; fill = Some next })) ≡ finished_of v d (Some b)
   stow_finishes r true e =
       let full = eqb-true (ones next.ticks) 8 e in
-      ap (λ (ws : List ℕ). idle (installed d b.line b.way b.protect ws)) (words_full v d b c.fill r full)
-      ∙ ap (λ (t : Bool). idle (cond t (installed d b.line b.way b.protect (line_seen v b.line)) d)) (sym (whole_full v d b c.fill r full))
+      ap (λ (ws : List ℕ). idle (installed d b.line b.way b.protect ws)) (words_full v d b (c.fill b refl) r full)
+      ∙ ap (λ (t : Bool). idle (cond t (installed d b.line b.way b.protect (line_seen v b.line)) d)) (sym (whole_full v d b (c.fill b refl) r full))
   stow_finishes r false e = refl
 
 pub fetch_keeps : (v : Shown) (d : Dir) (f : Option Fill) → Coherent v (record { dir = d; fill = f }) → Coherent v (fetched_of v d f)
@@ -169,4 +164,4 @@ fetch_finishes v d (Some b) c = by_test (v.readable (next_word b)) refl
   where
     by_test : (t : Bool) → v.readable (next_word b) ≡ t → finished v (cond t (stowed d (stored b (v.word (next_word b)))) (idle d)) ≡ finished_of v d (Some b)
     by_test true e = stow_finishes v d b c e (complete (stored b (v.word (next_word b)))) refl
-    by_test false e = ap (λ (t : Bool). idle (cond t (installed d b.line b.way b.protect (line_seen v b.line)) d)) (sym (not_whole v d b c.fill e))
+    by_test false e = ap (λ (t : Bool). idle (cond t (installed d b.line b.way b.protect (line_seen v b.line)) d)) (sym (not_whole v d b (c.fill b refl) e))

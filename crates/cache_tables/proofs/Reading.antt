@@ -2,13 +2,15 @@
 use Rattle.std.proofs.Common.{◌≡◌, ℕ, zero, suc, ◌+◌, ◌*◌, ◌/◌, ◌<◌, Bool, true, false, cond, ◌&&◌, eqb, List, get_or, Some, None, Ok, Err, Option, Result, sym, refl, ap, ◌∙◌, subst, ap₂, arith}
 use lib.Bits.{bit_xor}
 use lib.Count.{ones, ones_in}
-use Rattle.std.proofs.lemmas.Bool.{eqb-true, and_parts, and_right, cond-false}
+use Rattle.std.proofs.lemmas.Bool.{eqb-true, and_right, cond-false}
 use Rattle.fault.specs.declared.Fault.{Fault}
 use Rattle.port.specs.Memory.{State}
 use Rattle.port.specs.Meaning.{Settles, marks_answer, within, then_ok}
 use Rattle.directory.specs.declared.marks.WayNumber.{WayNumber}
 use Rattle.directory.specs.declared.sets.Way.{Way}
 use Rattle.directory.specs.declared.fills.Fill.{Fill}
+use Rattle.std.specs.Option.{option_map}
+use Rattle.directory.specs.Sets.{has_tag}
 use Rattle.directory.specs.Touch.{victim_of}
 use Rattle.directory.specs.Dirs.{Dir, line_of, place_of, set_of, tag_of, holds, found}
 use Rattle.directory.specs.Ticks.{ticked, next_word, starting, stored, fetched_word}
@@ -18,22 +20,30 @@ use Rattle.cache_tables.specs.Showing.{Shown, shown, reading}
 use Rattle.cache_tables.specs.Rules.{Model, idle, buffered_of, hit_of, hit, touched_of, touched_by, begun_fill, begun}
 use Rattle.cache_tables.specs.Coherence.{line_in, Sees, WayKept, Filling, FillKept, Coherent}
 use Rattle.cache_tables.proofs.Lines.{eight_at, all_at, line_word, line_set, line_inside}
-use Rattle.cache_tables.proofs.Keeping.{touch, abandon, filling_more, count_more}
+use Rattle.cache_tables.proofs.Keeping.{given, touch, abandon, filling_more, count_more}
 use Rattle.cache_tables.proofs.Fetching.{shown_kept, move, read_ok, read_err}
 
 -- ---- the line buffer answers
 
 pub buffered_sees : (v : Shown) (d : Dir) (f : Option Fill) (w x : ℕ) → FillKept v d f → Some x ≡ buffered_of f w → Sees v w x
-buffered_sees v d None w x h e = let z : ◌≡◌ {A = ℕ} 0 1 = cc in absurd (omega arith)
-buffered_sees v d (Some b) w x h e = h.got w x (sym e)
+buffered_sees v d None w x h e = absurd (cc)
+buffered_sees v d (Some b) w x h e = (h b refl).got w x (sym e)
 
 -- ---- a way answers
 
-pub held_line : (v : Shown) (t : Model) (l : ℕ) (k : WayNumber) → Coherent v t → holds t.dir l k ≡ true →
-    WayKept v (set_of l) (t.dir.way (set_of l) k) × (line_in (set_of l) (t.dir.way (set_of l) k) ≡ l)
-held_line v t l k c h =
-    let q = and_parts (t.dir.way (set_of l) k).valid (eqb (t.dir.way (set_of l) k).tag (tag_of l)) h in
-    (c.ways (set_of l) k q.0, ap (λ (x : ℕ). x * 256 + set_of l) (eqb-true (t.dir.way (set_of l) k).tag (tag_of l) q.1) ∙ line_set l)
+-- the way that holds a line, and what is known of it
+pub record Holding (v : Shown) (d : Dir) (l : ℕ) (k : WayNumber) : Type 0 where
+  pub way : Way
+  pub there : d.way (set_of l) k ≡ Some way
+  pub kept : WayKept v (set_of l) way
+  pub line : line_in (set_of l) way ≡ l
+
+pub held_line : (v : Shown) (t : Model) (l : ℕ) (k : WayNumber) → Coherent v t → holds t.dir l k ≡ true → Holding v t.dir l k
+held_line v t l k c = by_way (t.dir.way (set_of l) k) refl
+  where
+    by_way : (o : Option Way) → t.dir.way (set_of l) k ≡ o → has_tag (tag_of l) o ≡ true → Holding v t.dir l k
+    by_way None e f = absurd (cc)
+    by_way (Some y) e f = record { way = y; there = e; kept = c.ways (set_of l) k y e; line = ap (λ (x : ℕ). x * 256 + set_of l) (eqb-true y.tag (tag_of l) f) ∙ line_set l }
 
 kept_sees : (v : Shown) (i : ℕ) (y : Way) (w : ℕ) → WayKept v i y → line_in i y ≡ line_of w → Sees v w (get_or y.words (place_of w) 0)
 kept_sees v i y w h e =
@@ -47,11 +57,12 @@ pub hit_sees : (v : Shown) (t : Model) (w x : ℕ) → Coherent v t → Some x �
 hit_sees v t w x c = by_answer (found t.dir (line_of w)) refl
   where
     by_answer : (o : Option WayNumber) → found t.dir (line_of w) ≡ o → Some x ≡ hit_of t.dir w o → Sees v w x
-    by_answer None y e = let z : ◌≡◌ {A = ℕ} 0 1 = cc in absurd (omega arith)
+    by_answer None y e = absurd (cc)
     by_answer (Some k) y e =
         let q = held_line v t (line_of w) k c (held t.dir (line_of w) k y) in
-        let same : x ≡ get_or (t.dir.way (set_of (line_of w)) k).words (place_of w) 0 = cc in
-        let sees = kept_sees v (set_of (line_of w)) (t.dir.way (set_of (line_of w)) k) w q.0 q.1 in
+        let value : Some x ≡ Some (get_or q.way.words (place_of w) 0) = e ∙ ap (option_map (λ (z : Way). get_or z.words (place_of w) 0)) q.there in
+        let same : x ≡ get_or q.way.words (place_of w) 0 = cc in
+        let sees = kept_sees v (set_of (line_of w)) q.way w q.kept q.line in
         (sees.0, same ∙ sees.1)
 
 pub hit_keeps : (v : Shown) (t : Model) (w : ℕ) → Coherent v t → Coherent v (touched_by t w)
@@ -63,11 +74,15 @@ hit_keeps v t w c = by_answer (found t.dir (line_of w))
 
 -- where no way answers, none is touched
 pub none_found : (d : Dir) (w : ℕ) → None ≡ hit d w → found d (line_of w) ≡ None
-none_found d w = by_answer (found d (line_of w))
+none_found d w = by_answer (found d (line_of w)) refl
   where
-    by_answer : (o : Option WayNumber) → None ≡ hit_of d w o → o ≡ None
-    by_answer None e = refl
-    by_answer (Some k) e = let z : ◌≡◌ {A = ℕ} 0 1 = cc in absurd (omega arith)
+    by_way : (o : Option Way) → has_tag (tag_of (line_of w)) o ≡ true → None ≡ option_map (λ (y : Way). get_or y.words (place_of w) 0) o → ⊥
+    by_way None f e = cc
+    by_way (Some y) f e = cc
+
+    by_answer : (o : Option WayNumber) → found d (line_of w) ≡ o → None ≡ hit_of d w o → o ≡ None
+    by_answer None q e = refl
+    by_answer (Some k) q e = absurd (by_way (d.way (set_of (line_of w)) k) (held d (line_of w) k q) e)
 
 pub none_touched : (t : Model) (w : ℕ) → None ≡ hit t.dir w → touched_by t w ≡ t
 none_touched t w e = ap (touched_of t w) (none_found t.dir w e)
@@ -92,7 +107,7 @@ nothing_ticked (suc (suc (suc (suc (suc (suc (suc (suc p)))))))) h = absurd (ome
 nothing_fetched : (w : ℕ) (k : WayNumber) (p : Bool) (a x : ℕ) → fetched_word (starting w k p) a ≡ Some x → ⊥
 nothing_fetched w k p a x e =
     let none : fetched_word (starting w k p) a ≡ None = cond-false (eqb (line_of w) (line_of a) && ticked 0 (place_of a)) _ None (and_right (eqb (line_of w) (line_of a)) (ticked 0 (place_of a)) (nothing_ticked (place_of a) (omega arith))) in
-    let z : ◌≡◌ {A = ℕ} 0 1 = cc in omega arith
+    absurd (cc)
 
 starts_there : (w : ℕ) (k : WayNumber) (p : Bool) → next_word (starting w k p) ≡ w
 starts_there w k p =
@@ -135,7 +150,7 @@ module _ (v : Shown) (d : Dir) (w : ℕ) (c : Coherent v (idle d)) (inside : w <
           let at = starts_there w n (v.protected (line_of w)) in
           let r : v.readable (next_word b) ≡ true = ap (λ (x : ℕ). v.readable x) at ∙ er in
           subst (λ (x : ℕ). Coherent v (record { dir = d; fill = Some (stored b (v.word x)) })) at
-          (record { few = c.few; lined = c.lined; ways = c.ways; apart = c.apart; fill = filling_more v d b h r (omega (arith, count_more v d b h r, ones_zero)) })
+          (record { few = c.few; lined = c.lined; ways = c.ways; apart = c.apart; fill = λ a same. given (Filling v d) (stored b (v.word (next_word b))) a same (filling_more v d b h r (omega (arith, count_more v d b h r, ones_zero))) })
 
 -- ---- the miss, as the code goes about it
 
@@ -152,7 +167,7 @@ marks_ok s l k p e = by_answer (within l (s.facts.words / 8) s.facts.floor) e
   where
     by_answer : (r : Result (Unit {0}) Fault) → ◌≡◌ {A = Result (Bool × Bool) Fault} (Ok (k, p)) (then_ok r (Ok (s.facts.cacheable l, s.protected l))) → (k ≡ s.facts.cacheable l) × (p ≡ s.protected l)
     by_answer (Ok _) e = (ap first e, ap second e)
-    by_answer (Err x) e = let z : ◌≡◌ {A = ℕ} 0 1 = cc in absurd (omega arith)
+    by_answer (Err x) e = absurd (cc)
 
 begun_at : (v : Shown) (d : Dir) (w : ℕ) (r k : Bool) → v.readable w ≡ r → v.cacheable (line_of w) ≡ k →
     begun v d w ≡ cond (r && k) (record { dir = d; fill = Some (begun_fill d w (v.protected (line_of w)) (v.word w)) }) (idle d)

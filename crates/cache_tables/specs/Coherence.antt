@@ -35,12 +35,11 @@ pub record Filling (v : Shown) (d : Dir) (b : Fill) : Type 0 where
   pub absent : found d b.line ≡ None
 
 abbrev pub FillKept : Shown → Dir → Option Fill → Type 0
-FillKept v d None = Unit {0}
-FillKept v d (Some b) = Filling v d b
+FillKept v d f = (b : Fill) → f ≡ Some b → Filling v d b
 
 pub record Coherent (v : Shown) (t : Model) : Type 0 where
   pub few : v.words ≤ 8388608
   pub lined : v.words % 8 ≡ 0
-  pub ways : (i : ℕ) (k : WayNumber) → (t.dir.way i k).valid ≡ true → WayKept v i (t.dir.way i k)
+  pub ways : (i : ℕ) (k : WayNumber) (y : Way) → t.dir.way i k ≡ Some y → WayKept v i y
   pub apart : TagsAreApart t.dir
   pub fill : FillKept v t.dir t.fill

@@ -1,10 +1,12 @@
 -- What each call makes of the tables of a cache, and by which calls it reaches the port below.
-use Rattle.std.specs.Prelude.{ℕ, zero, suc, ◌-◌, Bool, false, cond, not, ◌&&◌, List, [], ◌∷◌, ◌++◌, Some, None, Option, Result, ◌==◌, count_ones, slice_index}
+use Rattle.std.specs.Prelude.{ℕ, zero, suc, ◌-◌, Bool, false, cond, not, ◌&&◌, List, [], ◌∷◌, ◌++◌, Some, None, Option, Result, ◌==◌, count_ones, slice_index, if◌then◌else◌}
+use Rattle.std.specs.Option.{option_map}
 use Rattle.fault.specs.declared.Fault.{Fault}
-use Rattle.port.specs.declared.Write.{Write}
+use Rattle.port.specs.declared.Store.{Store}
 use Rattle.port.specs.Lanes.{joined}
 use Rattle.port.specs.Steps.{Step, reads, writes, advances, outsides, snoops, flushes}
 use Rattle.directory.specs.declared.marks.WayNumber.{WayNumber}
+use Rattle.directory.specs.declared.sets.Way.{Way}
 use Rattle.directory.specs.declared.fills.Fill.{Fill}
 use Rattle.directory.specs.Touch.{victim_of}
 use Rattle.directory.specs.Dirs.{Dir, line_of, place_of, set_of, emptied, touched, found, installed, changed}
@@ -93,7 +95,7 @@ buffered_of (Some b) w = fetched_word b w
 -- A way that holds the word's line answers, and is touched.
 abbrev pub hit_of : Dir → ℕ → Option WayNumber → Option ℕ
 hit_of d w None = None
-hit_of d w (Some k) = Some (slice_index (d.way (set_of (line_of w)) k).words (place_of w))
+hit_of d w (Some k) = option_map (λ y. slice_index y.words (place_of w)) (d.way (set_of (line_of w)) k)
 
 abbrev pub hit : Dir → ℕ → Option ℕ
 hit d w = hit_of d w (found d (line_of w))
@@ -137,16 +139,19 @@ abbrev pub dropped : Model → ℕ → Model
 dropped t line = record { dir = dropped_dir t.dir line; fill = left_of line t.fill }
 
 -- A write to the way that holds its line: the way is touched, and the lanes change unless the line is protected.
-abbrev pub changed_word : Dir → Write → WayNumber → ℕ
-changed_word d w k = joined w.lanes (slice_index (d.way (set_of (line_of w.word)) k).words (place_of w.word)) w.value
+abbrev pub changed_word : Store → Way → ℕ
+changed_word w y = joined w.lanes (slice_index y.words (place_of w.word)) w.value
 
-abbrev pub changed_of : Dir → Write → Option WayNumber → Dir
+abbrev pub changed_way : Dir → Store → WayNumber → Option Way → Dir
+changed_way d w k None = d
+changed_way d w k (Some y) = if y.protect then d else changed d w.word k (changed_word w y)
+
+abbrev pub changed_of : Dir → Store → Option WayNumber → Dir
 changed_of d w None = d
 changed_of d w (Some k) =
-    cond (d.way (set_of (line_of w.word)) k).protect (touched d (set_of (line_of w.word)) k)
-    (touched (changed d w.word k (changed_word d w k)) (set_of (line_of w.word)) k)
+    touched (changed_way d w k (d.way (set_of (line_of w.word)) k)) (set_of (line_of w.word)) k
 
-abbrev pub written : Model → Write → Model
+abbrev pub written : Model → Store → Model
 written t w = record { dir = changed_of t.dir w (found t.dir (line_of w.word)); fill = t.fill }
 
 -- A fill of the line is under way, and the line is open to writes.
@@ -159,7 +164,7 @@ abbrev pub ready_turn : Shown → Model → ℕ → Turn
 ready_turn v t line = cond (fills_open t.fill line) (finish_turn v t) (turn t [])
 
 -- A write always goes below; a miss fills nothing.
-abbrev pub write_turn : Shown → Model → Write → Result (Unit {0}) Fault → Turn
+abbrev pub write_turn : Shown → Model → Store → Result (Unit {0}) Fault → Turn
 write_turn v t w r =
     turn (written (ready_turn v t (line_of w.word)).tables w) ((ready_turn v t (line_of w.word)).calls ++ (writes w r ∷ []))
 
@@ -171,7 +176,7 @@ advance_turn v t = turn (fetched v t) (fetch_calls v t.fill ++ (advances ∷ [])
 abbrev pub snoop_turn : Model → ℕ → Result (Unit {0}) Fault → Turn
 snoop_turn t w r = turn (dropped t (line_of w)) (snoops w r ∷ [])
 
-abbrev pub outside_turn : Model → Write → Result (Unit {0}) Fault → Turn
+abbrev pub outside_turn : Model → Store → Result (Unit {0}) Fault → Turn
 outside_turn t w r = turn (dropped t (line_of w.word)) (outsides w r ∷ [])
 
 abbrev pub flush_turn : Turn

@@ -1,12 +1,11 @@
 //! The tables of a cache: the directory, and the line buffer with the fill under way.
 ghost use Rattle.std.specs.Prelude.{◌≡◌, is_some, Some, None};
-ghost use Rattle.port.specs.Meaning.{writing};
 ghost use Rattle.directory.specs.Dirs.{found};
 ghost use Rattle.directory.specs.Ticks.{stored, UnderWay};
 ghost use Rattle.cache_tables.specs.Rules.{model, stowed, buffered_of, hit, touched_by, begun_fill, dropped, cleared, fills_open, written};
 
 use directory::{Directory, Fill};
-use port::join_lanes;
+use port::Store;
 
 /// The directory, and the fill under way, if there is one.
 #[derive(Drop)]
@@ -37,23 +36,18 @@ impl Tables {
     pub fn fills_open(&self, line: u32) -> bool
         ensures { result ≡ fills_open self.now.fill line }
     {
-        match self.fill {
-            Some(fill) => fill.line == line && !fill.protect,
-            None => false,
-        }
+        self.fill
+            .is_some_and(|fill| fill.line == line && !fill.protect)
     }
 
     /// The word, if it has been fetched for the line under fill.
     pub fn buffered(&self, word: u32) -> Option<u16>
         ensures { result ≡ buffered_of self.now.fill word }
     {
-        match self.fill {
-            Some(fill) => fill.fetched(word),
-            None => None,
-        }
+        self.fill.and_then(|fill| fill.fetched(word))
     }
 
-    /// TakesTurn the next word of the line under fill; the eighth completes the line.
+    /// Takes the next word of the line under fill; the eighth completes the line.
     pub fn stow(&mut self, mut fill: Fill, value: u16)
         requires under { UnderWay fill }
         requires absent { found (model self.old).dir fill.line ≡ None }
@@ -85,23 +79,24 @@ impl Tables {
         ensures value { result ≡ hit (model self.old).dir word }
         ensures after { model self.new ≡ touched_by (model self.old) word }
     {
-        let way = self.directory.lookup(word / 8)?;
-        let held = self.directory.way(word / 8, way);
-        self.directory.touch(word / 8, way);
-        Some(held.words[(word % 8) as usize])
+        let number = self.directory.lookup(word / 8)?;
+        self.directory.touch(word / 8, number);
+        self.directory
+            .way(word / 8, number)
+            .map(|way| way.words[(word % 8) as usize])
     }
 
-    /// Changes the word's lanes where a way holds its line; that way is touched, and a protected one is not changed.
-    pub fn change(&mut self, word: u32, lanes: u8, value: u16)
-        ensures { model self.new ≡ written (model self.old) (writing word lanes value) }
+    /// Changes the lanes of the write where a way holds its line; that way is touched, and a protected one is not changed.
+    pub fn change(&mut self, write: Store)
+        ensures { model self.new ≡ written (model self.old) write }
     {
-        if let Some(number) = self.directory.lookup(word / 8) {
-            let way = self.directory.way(word / 8, number);
-            self.directory.touch(word / 8, number);
-            if !way.protect {
-                let old = way.words[(word % 8) as usize];
-                self.directory
-                    .change(word, number, join_lanes(lanes, old, value));
+        let line = write.word / 8;
+        if let Some(number) = self.directory.lookup(line) {
+            self.directory.touch(line, number);
+            let open = self.directory.way(line, number).filter(|way| !way.protect);
+            if let Some(way) = open {
+                let old = way.words[(write.word % 8) as usize];
+                self.directory.change(write.word, number, write.over(old));
             }
         }
     }
@@ -110,15 +105,11 @@ impl Tables {
     pub fn drop_line(&mut self, line: u32)
         ensures { model self.new ≡ dropped (model self.old) line }
     {
-        if let Some(fill) = self.fill {
-            if fill.line == line {
-                self.fill = None;
-            }
-        }
+        self.fill = self.fill.filter(|fill| fill.line != line);
         self.directory.drop_line(line);
     }
 
-    /// Clears all valid flags and marks, and abandons the fill.
+    /// Empties all ways, clears all marks, and abandons the fill.
     pub fn clear(&mut self)
         ensures { model self.new ≡ cleared }
     {

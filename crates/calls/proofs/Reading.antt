@@ -1,14 +1,13 @@
 -- Where the words of a list stand among its bytes, and how a reader goes from one call to the next.
 use Rattle.std.proofs.Common.{◌≡◌, ℕ, zero, suc, ◌+◌, ◌-◌, ◌*◌, ◌/◌, ◌<◌, ◌≤◌, ◌⊎◌, List, [], ◌∷◌, ◌++◌, length, get_or, drop, Some, None, Ok, Err, Option, Result, sym, refl, ap, ◌∙◌, inl, inr, ⊎_elim, append_assoc, append-nil, add-zero, arith, get_or-drop, drop-drop}
 use native.Mathlib.Decide.{dec_lt}
-use Rattle.std.proofs.lemmas.Bool.Decides.{nat_tests}
 use Rattle.fault.specs.declared.Fault.{Fault}
 use Rattle.calls.specs.declared.call.Call.{Call}
 use Rattle.calls.specs.declared.call.Cargo.{Cargo}
 use Rattle.calls.specs.declared.call.Cargo.TheVariants.{Nothing, Word, Store}
 use Rattle.calls.specs.Calls.{cargo_of, size_with, size_of}
 use Rattle.calls.specs.Words.{words, word_at, words_from}
-use Rattle.calls.specs.Format.{malformed, map_ok, then_ok, kind_of, call_in, first_of, front, stride, followed, calls_from, length_in, next_in}
+use Rattle.calls.specs.Format.{map_ok, then_ok, call_in, first_of, front, stride, followed, calls_from, length_in, next_in}
 
 -- the word with index i + 1 is the one with index i four bytes on
 at_four : (a b c d : ℕ) (rest : List ℕ) (i : ℕ) → word_at (a ∷ b ∷ c ∷ d ∷ rest) (suc i) ≡ word_at rest i
@@ -41,10 +40,6 @@ words_more (a ∷ b ∷ c ∷ d ∷ rest) zero h = refl
 words_more (a ∷ b ∷ c ∷ d ∷ rest) (suc i) h =
     words_more rest i (omega arith) ∙ ap (λ w. w ∷ drop (suc i) (words rest)) (sym (at_four a b c d rest i))
 
--- a kind that no call has
-pub no_kind : (i w : ℕ) (next : Option ℕ) → 14 ≤ kind_of w → call_in i w next ≡ Err (malformed i)
-no_kind i w next h = grind (arith, nat_tests)
-
 -- what word_at answers
 pub word_there : (xs : List ℕ) (i : ℕ) → i < length xs / 4 → first_of (words_from i xs) ≡ Some (word_at xs i)
 word_there xs i h = let k : i * 4 + 4 ≤ length xs = omega arith in ap first_of (words_more xs i k)
@@ -70,9 +65,6 @@ one_or_two (Store s) = inr refl
 
 pub size_bounds : (call : Call) → (1 ≤ size_of call) × (size_of call ≤ 2)
 size_bounds call = ⊎_elim (λ e. (omega arith, omega arith)) (λ e. (omega arith, omega arith)) (one_or_two (cargo_of call))
-
-pub fit_below : (n : ℕ) → Ok tt ≡ length_in n → n ≤ 16384
-fit_below n h = grind (arith, nat_tests)
 
 -- what next_call answers once it has a call's word and the one after it
 pub next_there : (bytes : List ℕ) (i w : ℕ) (next : Option ℕ) (r : Result Call Fault) → Ok tt ≡ length_in (length bytes) →

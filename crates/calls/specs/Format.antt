@@ -3,8 +3,8 @@ use Rattle.std.specs.Prelude.{ℕ, ◌+◌, ◌/◌, ◌%◌, ◌^◌, Bool, tru
 use Rattle.fault.specs.declared.Fault.{Fault}
 use Rattle.fault.specs.declared.Refusal.TheVariants.{ListLength, ListWord}
 use Rattle.calls.specs.declared.call.Call.{Call}
-use Rattle.calls.specs.declared.call.Call.TheVariants.{Read, Write, Unposted, Advance, Lock, LockedRead, LockedWrite, Unlock, Ask, MasterRead, MasterWrite, Give, Snoop, Flush}
-use Rattle.calls.specs.declared.call.Store.{Store}
+use Rattle.calls.specs.declared.call.Call.TheVariants.{Read, Write as Post, Unposted, Advance, Lock, LockedRead, LockedWrite, Unlock, Ask, MasterRead, MasterWrite, Give, Snoop, Flush}
+use Rattle.port.specs.declared.Store.{Store}
 use Rattle.calls.specs.Calls.{size_of}
 use Rattle.calls.specs.Words.{words, words_from}
 
@@ -70,7 +70,7 @@ store_in i w next =
 abbrev pub call_of_kind : ℕ → ℕ → ℕ → Option ℕ → Result Call Fault
 call_of_kind kind i w next =
     cond (kind == 0) (map_ok Read (target_in i w))
-    (cond (kind == 1) (map_ok Write (store_in i w next))
+    (cond (kind == 1) (map_ok Post (store_in i w next))
     (cond (kind == 2) (map_ok Unposted (store_in i w next))
     (cond (kind == 3) (bare_call i w Advance)
     (cond (kind == 4) (bare_call i w Lock)

@@ -1,11 +1,10 @@
--- What the error of a whole list says of the list.
-use Rattle.std.specs.Prelude.{◌≡◌, List, Err, Result}
+-- What the reason for a stop says of what was asked for.
+use Rattle.std.specs.Prelude.{◌≡◌, Err, Result}
 use Rattle.fault.specs.declared.Fault.{Fault}
-use Rattle.calls.specs.declared.call.Call.{Call}
-use Rattle.calls.specs.declared.error.ListError.{ListError}
-use Rattle.calls.specs.declared.error.ListError.TheVariants.{Refused, Memory}
+use Rattle.calls.specs.declared.error.Stop.{Stop}
+use Rattle.calls.specs.declared.error.Stop.TheVariants.{Refused, Memory}
 
--- A refusal is the list's own; want of memory says nothing of the list.
-abbrev pub Told : ListError → Result (List Call) Fault → Type 0
-Told (Refused fault) read = read ≡ Err fault
-Told Memory read = Unit {0}
+-- A refusal is that of what was asked for; want of memory says nothing of it.
+abbrev pub Told : {X : Type 0} → Stop → Result X Fault → Type 0
+Told (Refused fault) asked = asked ≡ Err fault
+Told Memory asked = Unit {0}

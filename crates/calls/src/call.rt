@@ -1,14 +1,9 @@
 //! The fourteen calls of a board.
-ghost use Rattle.std.specs.Prelude.{◌≡◌};
+ghost use Rattle.std.specs.Prelude.{◌≡◌, Some};
 ghost use Rattle.calls.specs.Calls.{cargo_of, name_of, size_of};
 
-/// A value for some lanes of a word.
-#[derive(Clone, Copy, Debug, PartialEq)]
-pub struct Store {
-    pub word: u32,
-    pub lanes: u8,
-    pub value: u16,
-}
+use port::Store;
+use std::fmt;
 
 /// A call of the board, with what it carries.
 #[derive(Clone, Copy, Debug, PartialEq)]
@@ -69,10 +64,10 @@ impl Call {
             | Call::LockedRead(word)
             | Call::MasterRead(word)
             | Call::Snoop(word) => Cargo::Word(word),
-            Call::Write(store)
-            | Call::Unposted(store)
-            | Call::LockedWrite(store)
-            | Call::MasterWrite(store) => Cargo::Store(store),
+            Call::Write(write)
+            | Call::Unposted(write)
+            | Call::LockedWrite(write)
+            | Call::MasterWrite(write) => Cargo::Store(write),
             Call::Advance | Call::Lock | Call::Unlock | Call::Ask | Call::Give | Call::Flush =>
                 Cargo::Nothing,
         }
@@ -86,5 +81,14 @@ impl Call {
             Cargo::Nothing | Cargo::Word(_) => 1,
             Cargo::Store(_) => 2,
         }
+    }
+}
+
+impl fmt::Display for Call {
+    ghost output = { λ call. Some (name_of call) };
+
+    fn fmt<W: fmt::Write>(&self, f: &mut fmt::Formatter<W>) -> fmt::Result {
+        let name = self.name();
+        write!(f, "{name}")
     }
 }

@@ -1,29 +1,29 @@
-//! Why a list gives no calls.
+//! Why a list gives no calls, or a card runs none.
 ghost use Rattle.std.specs.Prelude.{◌≡◌};
-ghost use Rattle.calls.specs.declared.error.ListError.TheVariants.{Refused as ListRefused, Memory};
+ghost use Rattle.calls.specs.declared.error.Stop.TheVariants.{Refused, Memory};
 
 use fault::Fault;
-use std::alloc::{AllocError, AllocFailed};
+use std::alloc::AllocFailed;
 
-/// Why a list gives no calls: it is refused, or there is no memory to hold them.
+/// Why a list gives no calls, or a card runs none: they are refused, or there is no memory, which is no refusal and has no number.
 #[derive(Clone, Copy, Debug, PartialEq)]
-pub enum ListError {
+pub enum Stop {
     Refused(Fault),
     Memory,
 }
 
-impl From<Fault> for ListError {
-    ghost from_gives = { λ fault r. r ≡ ListRefused fault };
+impl From<Fault> for Stop {
+    ghost from_gives = { λ fault r. r ≡ Refused fault };
 
-    fn from(fault: Fault) -> ListError {
-        ListError::Refused(fault)
+    fn from(fault: Fault) -> Stop {
+        Stop::Refused(fault)
     }
 }
 
-impl<T: Drop> From<AllocFailed<T>> for ListError {
+impl<T: Drop> From<AllocFailed<T>> for Stop {
     ghost from_gives = { λ _ r. r ≡ Memory };
 
-    fn from(_: AllocFailed<T>) -> ListError {
-        ListError::Memory
+    fn from(_: AllocFailed<T>) -> Stop {
+        Stop::Memory
     }
 }

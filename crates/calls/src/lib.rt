@@ -6,7 +6,7 @@ mod error;
 mod reader;
 mod whole;
 
-pub use call::{Call, Cargo, Store};
-pub use error::ListError;
+pub use call::{Call, Cargo};
+pub use error::Stop;
 pub use reader::Reader;
 pub use whole::read_list;

@@ -3,8 +3,9 @@ ghost use Rattle.std.specs.Prelude.{◌≡◌, ℕ, ◌+◌, ◌/◌, ◌^◌, �
 ghost use Rattle.calls.specs.Words.{word_of, words_from};
 ghost use Rattle.calls.specs.Format.{target_in, value_in, store_in, call_in, bare_call, first_of, next_in, stride};
 
-use super::call::{Call, Store};
+use super::call::Call;
 use fault::{Fault, Refusal};
+use port::Store;
 
 /// The most bytes a list may have.
 const MOST_BYTES: usize = 16_384;
@@ -70,82 +71,92 @@ fn malformed(index: u32) -> Fault
     }
 }
 
-// The call itself, where its list word has no other bits than the kind.
-fn bare(index: u32, head: u32, call: Call) -> Result<Call, Fault>
-    ensures { result ≡ bare_call index head call }
-{
-    if bits(head, 0, 28) == 0 {
-        Ok(call)
-    } else {
-        Err(malformed(index))
-    }
+// What a call is read from: its list word, at that index, and the list word after it.
+#[derive(Clone, Copy)]
+struct Front {
+    index: u32,
+    head: u32,
+    next: Option<u32>,
+    // A list is far shorter, so the index after this one is a number too.
+    ghost small: { index < 2 ^ 31 },
 }
 
-// The word that a call without data names.
-fn target(index: u32, head: u32) -> Result<u32, Fault>
-    ensures { result ≡ target_in index head }
-{
-    if bits(head, 23, 5) == 0 {
-        Ok(bits(head, 0, 23))
-    } else {
-        Err(malformed(index))
+impl Front {
+    // The call itself, where its list word has no other bits than the kind.
+    fn bare(self, call: Call) -> Result<Call, Fault>
+        ensures { result ≡ bare_call self.index self.head call }
+    {
+        if bits(self.head, 0, 28) == 0 {
+            Ok(call)
+        } else {
+            Err(malformed(self.index))
+        }
     }
-}
 
-// The value of the data word that follows a call.
-fn value(index: u32, next: Option<u32>) -> Result<u16, Fault>
-    requires { index < 2 ^ 31 }
-    ensures { result ≡ value_in index next }
-{
-    let Some(word) = next else {
-        return Err(malformed(index));
-    };
-    if bits(word, 28, 4) != 15 {
-        return Err(malformed(index));
+    // The word that a call without data names.
+    fn target(self) -> Result<u32, Fault>
+        ensures { result ≡ target_in self.index self.head }
+    {
+        if bits(self.head, 23, 5) == 0 {
+            Ok(bits(self.head, 0, 23))
+        } else {
+            Err(malformed(self.index))
+        }
     }
-    if bits(word, 16, 12) != 0 {
-        return Err(malformed(index + 1));
-    }
-    Ok(bits(word, 0, 16) as u16)
-}
 
-// The store of a call with its data word.
-fn store(index: u32, head: u32, next: Option<u32>) -> Result<Store, Fault>
-    requires { index < 2 ^ 31 }
-    ensures { result ≡ store_in index head next }
-{
-    if bits(head, 25, 3) != 0 {
-        return Err(malformed(index));
+    // The value of the data word that follows a call.
+    fn value(self) -> Result<u16, Fault>
+        ensures { result ≡ value_in self.index self.next }
+    {
+        let Some(word) = self.next else {
+            return Err(malformed(self.index));
+        };
+        if bits(word, 28, 4) != 15 {
+            return Err(malformed(self.index));
+        }
+        if bits(word, 16, 12) != 0 {
+            return Err(malformed(self.index + 1));
+        }
+        Ok(bits(word, 0, 16) as u16)
     }
-    let value = value(index, next)?;
-    Ok(Store {
-        word: bits(head, 0, 23),
-        lanes: bits(head, 23, 2) as u8,
-        value,
-    })
-}
 
-// The call that a list word begins, where `next` is the list word after it.
-fn call(index: u32, head: u32, next: Option<u32>) -> Result<Call, Fault>
-    requires { index < 2 ^ 31 }
-    ensures { result ≡ call_in index head next }
-{
-    match bits(head, 28, 4) {
-        0 => Ok(Call::Read(target(index, head)?)),
-        1 => Ok(Call::Write(store(index, head, next)?)),
-        2 => Ok(Call::Unposted(store(index, head, next)?)),
-        3 => bare(index, head, Call::Advance),
-        4 => bare(index, head, Call::Lock),
-        5 => Ok(Call::LockedRead(target(index, head)?)),
-        6 => Ok(Call::LockedWrite(store(index, head, next)?)),
-        7 => bare(index, head, Call::Unlock),
-        8 => bare(index, head, Call::Ask),
-        9 => Ok(Call::MasterRead(target(index, head)?)),
-        10 => Ok(Call::MasterWrite(store(index, head, next)?)),
-        11 => bare(index, head, Call::Give),
-        12 => Ok(Call::Snoop(target(index, head)?)),
-        13 => bare(index, head, Call::Flush),
-        _ => Err(malformed(index)),
+    // The store of a call with its data word.
+    fn store(self) -> Result<Store, Fault>
+        ensures { result ≡ store_in self.index self.head self.next }
+    {
+        if bits(self.head, 25, 3) != 0 {
+            return Err(malformed(self.index));
+        }
+        let value = self.value()?;
+        Ok(Store {
+            word: bits(self.head, 0, 23),
+            lanes: bits(self.head, 23, 2) as u8,
+            value,
+        })
+    }
+
+    // The call that the list word begins.
+    fn call(self) -> Result<Call, Fault>
+        ensures { result ≡ call_in self.index self.head self.next }
+    {
+        // The kinds are numbers in the format of a list, and calls from here on.
+        match bits(self.head, 28, 4) {
+            0 => Ok(Call::Read(self.target()?)),
+            1 => Ok(Call::Write(self.store()?)),
+            2 => Ok(Call::Unposted(self.store()?)),
+            3 => self.bare(Call::Advance),
+            4 => self.bare(Call::Lock),
+            5 => Ok(Call::LockedRead(self.target()?)),
+            6 => Ok(Call::LockedWrite(self.store()?)),
+            7 => self.bare(Call::Unlock),
+            8 => self.bare(Call::Ask),
+            9 => Ok(Call::MasterRead(self.target()?)),
+            10 => Ok(Call::MasterWrite(self.store()?)),
+            11 => self.bare(Call::Give),
+            12 => Ok(Call::Snoop(self.target()?)),
+            13 => self.bare(Call::Flush),
+            _ => Err(malformed(self.index)),
+        }
     }
 }
 
@@ -170,7 +181,12 @@ impl<'a> Reader<'a> {
             return Ok(None);
         };
         let next = word_at(self.bytes, self.index + 1);
-        let call = call(self.index, head, next)?;
+        let front = Front {
+            index: self.index,
+            head,
+            next,
+        };
+        let call = front.call()?;
         self.index += call.size();
         Ok(Some(call))
     }

@@ -1,3 +1,2 @@
 pub mod Reaching
 pub mod Records
-pub mod Stocking

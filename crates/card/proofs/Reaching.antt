@@ -4,13 +4,12 @@ use Rattle.fault.specs.declared.Fault.{Fault}
 use Rattle.fault.specs.declared.Refusal.{Refusal}
 use Rattle.calls.specs.declared.call.Call.{Call}
 use Rattle.calls.specs.declared.call.Call.TheVariants.{Read, Write as Post, Unposted, Advance, Lock, LockedRead, LockedWrite, Unlock, Ask, MasterRead, MasterWrite, Give, Snoop, Flush}
-use Rattle.port.specs.declared.Write.{Write}
-use Rattle.port.specs.Memory.{State}
+use Rattle.port.specs.declared.Store.{Store}
+use Rattle.port.specs.declared.Port.{Ghosts}
 use Rattle.port.specs.Meaning.{write_answer, waiting_answer, ByAnswer}
-use Rattle.port.specs.Steps.{Step, writes, advances, done, then, Drains, empty, more}
+use Rattle.port.specs.Steps.{writes, advances, done, then, Drains, empty, more}
 use Rattle.write_buffer.specs.declared.buffer.WriteBuffer.{WriteBuffer}
 use Rattle.write_buffer.specs.Queues.{queued}
-use Rattle.write_buffer.specs.Buffering.{Does as BufferDoes}
 use Rattle.write_buffer.specs.Runs.{NothingIsLost}
 use Rattle.cache_tables.specs.Rules.{cleared}
 use Rattle.cache.specs.Doing.{tables_of}
@@ -18,38 +17,38 @@ use Rattle.cache.specs.Runs.{OnlyReadsAreKept}
 use Rattle.port.proofs.Chains.{chain_append}
 use Rattle.book.specs.declared.answer.Mode.{Mode}
 use Rattle.book.specs.declared.answer.Answer.{Answer}
-use Rattle.book.specs.Tables.{stop, write_of}
+use Rattle.book.specs.Tables.{stop}
 use Rattle.book.specs.Calling.{Through, Makes, Reaches}
 use Rattle.book.specs.Promise.{CallsMade, none_made, one_more, NeverAnOldDigit}
-use Rattle.card.specs.Stages.{Pile, buffer_state, pile_state, PileDoes, Fresh, Reached, RunOnTheStages}
+use Rattle.card.specs.Stages.{buffer_ghosts, Pile, pile_state, pile_ghosts, Fresh, Reached, RunOnTheStages}
 
-module _ {P : Type 0} (state : P → State) (does : P → Step → P → Type 0) where
-  same_reached : (p q : P) → q ≡ p → Reached does p q
-  same_reached p q e = subst (λ (x : P). Reached does p x) (sym e) (record { calls = []; chain = done })
+module _ {P : Type 0} (G : Ghosts P) where
+  same_reached : (p q : P) → q ≡ p → Reached G.does p q
+  same_reached p q e = subst (λ (x : P). Reached G.does p x) (sym e) (record { calls = []; chain = done })
 
-  both_reached : (p q r : P) → Reached does p q → Reached does q r → Reached does p r
+  both_reached : (p q r : P) → Reached G.does p q → Reached G.does q r → Reached G.does p r
   both_reached p q r a b = record { calls = a.calls ++ b.calls; chain = chain_append a.chain b.chain }
 
-  drains_reached : (p q : P) → Drains state does p q → Reached does p q
+  drains_reached : (p q : P) → Drains G.state G.does p q → Reached G.does p q
   drains_reached p _ (empty e) = record { calls = []; chain = done }
   drains_reached p _ (more {q = m} {r = q} h d rest) =
       let t = drains_reached m q rest in record { calls = advances ∷ t.calls; chain = then d t.chain }
 
-  wrote_reached : (w : Write) (p m q : P) (r : Result (Unit {0}) Fault) → does p (writes w r) m → ByAnswer r (Drains state does m q) (q ≡ m) → Reached does p q
+  wrote_reached : (w : Store) (p m q : P) (r : Result (Unit {0}) Fault) → G.does p (writes w r) m → ByAnswer r (Drains G.state G.does m q) (q ≡ m) → Reached G.does p q
   wrote_reached w p m q (Ok x) h d = both_reached p m q (record { calls = writes w (Ok x) ∷ []; chain = then h done }) (drains_reached m q d)
   wrote_reached w p m q (Err e) h d = both_reached p m q (record { calls = writes w (Err e) ∷ []; chain = then h done }) (same_reached m q d)
 
-  through_reached : (w : Write) (p q : P) → Through state does w p q → Reached does p q
-  through_reached w p q t = wrote_reached w p t.between q (write_answer (state p) w) t.wrote t.drains
+  through_reached : (w : Store) (p q : P) → Through G w p q → Reached G.does p q
+  through_reached w p q t = wrote_reached w p t.between q (write_answer (G.state p) w) t.wrote t.drains
 
-  made_reached : (c : Call) (p q : P) → Makes state does c p q → Reached does p q
+  made_reached : (c : Call) (p q : P) → Makes G c p q → Reached G.does p q
   made_reached (Read w) p q h = record { calls = _; chain = h }
   made_reached (Post s) p q h = record { calls = _; chain = h }
-  made_reached (Unposted s) p q h = through_reached (write_of s) p q h
+  made_reached (Unposted s) p q h = through_reached s p q h
   made_reached Advance p q h = record { calls = _; chain = h }
   made_reached Lock p q h = drains_reached p q h
   made_reached (LockedRead w) p q h = same_reached p q h
-  made_reached (LockedWrite s) p q h = through_reached (write_of s) p q h
+  made_reached (LockedWrite s) p q h = through_reached s p q h
   made_reached Unlock p q h = same_reached p q h
   made_reached Ask p q h = same_reached p q h
   made_reached (MasterRead w) p q h = same_reached p q h
@@ -58,45 +57,46 @@ module _ {P : Type 0} (state : P → State) (does : P → Step → P → Type 0)
   made_reached (Snoop w) p q h = record { calls = _; chain = h }
   made_reached Flush p q h = record { calls = _; chain = h }
 
-  called_reached : (o : Option Refusal) (c : Call) (p q : P) → Reaches o (Makes state does c p q) (q ≡ p) → Reached does p q
+  called_reached : (o : Option Refusal) (c : Call) (p q : P) → Reaches o (Makes G c p q) (q ≡ p) → Reached G.does p q
   called_reached None c p q h = made_reached c p q h
   called_reached (Some r) c p q h = same_reached p q h
 
   calls_reached : (m : Mode) (p : P) (cs : List Call) (rs : List (Result Answer Fault)) (ks : List ℕ) (n : Mode) (q : P)
-      → CallsMade state does m p cs rs ks n q → Reached does p q
+      → CallsMade G m p cs rs ks n q → Reached G.does p q
   calls_reached m p _ _ _ _ _ none_made = record { calls = []; chain = done }
   calls_reached m p _ _ _ _ _ (one_more {n = n} {o = o} {q = q} {u = u} {c = c} {r = r} {cs = cs} {rs = rs} {ks = ks} t h) =
       both_reached p q u (calls_reached m p cs rs ks n q t) (called_reached (stop n c) c q u h.made)
 
-  run_reached : (p : P) (cs : List Call) (rs : List (Result Answer Fault)) (m : Mode) (q : P) → NeverAnOldDigit state does p cs rs m q → Reached does p q
+  run_reached : (p : P) (cs : List Call) (rs : List (Result Answer Fault)) (m : Mode) (q : P) → NeverAnOldDigit G p cs rs m q → Reached G.does p q
   run_reached p cs rs m q h = both_reached p h.made q (drains_reached p h.made h.drains) (calls_reached _ _ _ _ _ _ _ h.calls_made)
 
 -- Stages put on a memory one after another, and taken off it again.
-pub put_on : {P : Type 0} (memory : P) (b : WriteBuffer P) (c : Pile P) → b.below ≡ memory → queued b.queue ≡ [] → c.below ≡ b → tables_of c ≡ cleared → Fresh memory c
-put_on memory b c m q e t = record {
-  memory_below = ap (λ (x : WriteBuffer _). x.below) e ∙ m;
-  no_write = ap (λ (x : WriteBuffer _). queued x.queue) e ∙ q;
-  no_line = t;
-}
+module _ {P : Type 0} {G : Ghosts P} where
+  pub put_on : (memory : P) (b : WriteBuffer P G) (c : Pile G) → b.below ≡ memory → queued b.queue ≡ [] → c.below ≡ b → tables_of c ≡ cleared → Fresh memory c
+  put_on memory b c m q e t = record {
+    memory_below = ap (λ (x : WriteBuffer P G). x.below) e ∙ m;
+    no_write = ap (λ (x : WriteBuffer P G). queued x.queue) e ∙ q;
+    no_line = t;
+  }
 
-pub taken_off : {P : Type 0} (memory : P) (b : WriteBuffer P) (c d : Pile P) → d ≡ c → b ≡ d.below → memory ≡ b.below → c.below.below ≡ memory
-taken_off memory b c d e f g = sym (g ∙ ap (λ (x : WriteBuffer _). x.below) f ∙ ap (λ (x : Pile _). x.below.below) e)
+  pub taken_off : (memory : P) (b : WriteBuffer P G) (c d : Pile G) → d ≡ c → b ≡ d.below → memory ≡ b.below → c.below.below ≡ memory
+  taken_off memory b c d e f g = sym (g ∙ ap (λ (x : WriteBuffer P G). x.below) f ∙ ap (λ (x : Pile G). x.below.below) e)
 
-pub on_the_stages : {P : Type 0} (state : P → State) (does : P → Step → P → Type 0) (memory left : P) (cs : List Call) (rs : List (Result Answer Fault)) (waiting : ℕ) (made pile : Pile P) (mode : Mode)
-    → Fresh memory made → pile.below.below ≡ left → NothingIsLost state does → OnlyReadsAreKept (buffer_state state) (BufferDoes state does)
-    → NeverAnOldDigit (pile_state state) (PileDoes state does) made cs rs mode pile → waiting ≡ waiting_answer (pile_state state pile)
-    → RunOnTheStages state does memory cs rs waiting left
-on_the_stages state does memory left cs rs waiting made pile mode fresh handed lost kept promise counted =
-    let top = run_reached (pile_state state) (PileDoes state does) made cs rs mode pile promise in
-    let buffer = kept made pile top.calls top.chain in
-    let bottom = lost made.below pile.below buffer.calls buffer.chain in
-    record {
-      made = made;
-      fresh = fresh;
-      mode = mode;
-      pile = pile;
-      handed = handed;
-      promise = promise;
-      counted = counted;
-      reached = subst₂ (Reached does) fresh.memory_below handed (record { calls = bottom.calls; chain = bottom.chain });
-    }
+  pub on_the_stages : (memory left : P) (cs : List Call) (rs : List (Result Answer Fault)) (waiting : ℕ) (made pile : Pile G) (mode : Mode)
+      → Fresh memory made → pile.below.below ≡ left → NothingIsLost G → OnlyReadsAreKept (buffer_ghosts G)
+      → NeverAnOldDigit (pile_ghosts G) made cs rs mode pile → waiting ≡ waiting_answer (pile_state G pile)
+      → RunOnTheStages G memory cs rs waiting left
+  on_the_stages memory left cs rs waiting made pile mode fresh handed lost kept promise counted =
+      let top = run_reached (pile_ghosts G) made cs rs mode pile promise in
+      let buffer = kept made pile top.calls top.chain in
+      let bottom = lost made.below pile.below buffer.calls buffer.chain in
+      record {
+        made = made;
+        fresh = fresh;
+        mode = mode;
+        pile = pile;
+        handed = handed;
+        promise = promise;
+        counted = counted;
+        reached = subst₂ (Reached G.does) fresh.memory_below handed (record { calls = bottom.calls; chain = bottom.chain });
+      }

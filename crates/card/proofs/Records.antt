@@ -2,7 +2,7 @@
 use Rattle.std.proofs.Common.{◌≡◌, ℕ, zero, suc, ◌-◌, ◌*◌, ◌<◌, Bool, true, false, cond, ltb, List, [], ◌∷◌, length, get_or, set, Ok, Err, MatchBool, Result, sym, refl, ap, ◌∙◌, subst, ap₂, subst₂, arith, length-set, lt-ltb}
 use Rattle.fault.specs.declared.Fault.{Fault}
 use Rattle.calls.specs.declared.call.Call.{Call}
-use Rattle.port.specs.declared.Write.{Write}
+use Rattle.port.specs.declared.Store.{Store}
 use Rattle.port.specs.Memory.{State, line_of, raised}
 use Rattle.port.specs.Meaning.{then_ok}
 use Rattle.port.specs.Steps.{Step, reads, writes, advances, outsides, snoops, flushes, Chain, done, then, Drains, empty, more}
@@ -13,10 +13,10 @@ use Rattle.banks.specs.declared.eprom.EpromBank.{EpromBank}
 use Rattle.banks.specs.Sizes.{unfit, fit_lines, size_of_lines, words_of_lines}
 use Rattle.banks.specs.Lines.{line_at, place_of, memory_of, changed}
 use Rattle.banks.specs.Ram.{RamWritten, RamDoes}
-use Rattle.joined_map.specs.Joint.{Posted}
+use Rattle.joined_map.specs.Steps.{Posted}
 use Rattle.book.specs.declared.answer.Answer.{Answer}
 use Rattle.card.specs.Stages.{pile_state, RunOnTheStages}
-use Rattle.card.specs.Card.{card_size, unless_unfit, CardMemory, ram_state_of, eprom_state_of, memory_state, MemoryDoes, first_state, OnlyWordsDiffer, CardKeepsItsPromise}
+use Rattle.card.specs.Card.{card_size, unless_unfit, ram_ghosts, eprom_ghosts, CardMemory, memory_ghosts, first_state, OnlyWordsDiffer, CardKeepsItsPromise}
 
 -- RECORDS THAT DIFFER IN THEIR WORDS
 
@@ -39,11 +39,11 @@ kept_in_list f (x ∷ ls) zero (suc k) l e = refl
 kept_in_list f (x ∷ ls) (suc i) zero l e = refl
 kept_in_list f (x ∷ ls) (suc i) (suc k) l e = kept_in_list f ls i k l e
 
-written_differ : (ls : List Line) (w : Write) (p : Bool) → OnlyWordsDiffer ls (cond p ls (set ls (line_of w.word) (changed (line_at ls (line_of w.word)) (place_of w.word) w.lanes w.value)))
+written_differ : (ls : List Line) (w : Store) (p : Bool) → OnlyWordsDiffer ls (cond p ls (set ls (line_of w.word) (changed (line_at ls (line_of w.word)) w)))
 written_differ ls w true = none_differ ls
 written_differ ls w false =
     let i = line_of w.word in
-    let new = changed (line_at ls i) (place_of w.word) w.lanes w.value in
+    let new = changed (line_at ls i) w in
     record {
       count = length-set ls i new;
       cacheable = λ k. kept_in_list (λ l. l.cacheable) ls i k new refl;
@@ -59,7 +59,7 @@ Kept b c = OnlyWordsDiffer b.lines.now c.lines.now
 same_kept : (b c : RamBank) → c ≡ b → Kept b c
 same_kept b c e = subst (λ (x : RamBank). Kept b x) (sym e) (none_differ b.lines.now)
 
-written_kept : (b c : RamBank) (w : Write) (r : Result (Unit {0}) Fault) → RamWritten b w r c → Kept b c
+written_kept : (b c : RamBank) (w : Store) (r : Result (Unit {0}) Fault) → RamWritten b w r c → Kept b c
 written_kept b c w (Ok x) h =
     subst (λ (ls : List Line). OnlyWordsDiffer b.lines.now ls) (sym h.records) (written_differ b.lines.now w (line_at b.lines.now (line_of w.word)).protect)
 written_kept b c w (Err e) h = same_kept b c h
@@ -77,50 +77,50 @@ idle : {P : Type 0} (state : P → State) (does : P → Step → P → Type 0) �
 idle state does still p _ (empty e) = refl
 idle state does still p _ (more h d rest) = absurd (omega (arith, ap length (still p)))
 
-ram_idle : (p q : RamBank) → Drains ram_state_of RamDoes p q → q ≡ p
-ram_idle p q h = idle ram_state_of RamDoes (λ b. refl) p q h
+ram_idle : (p q : RamBank) → Drains ram_ghosts.state ram_ghosts.does p q → q ≡ p
+ram_idle p q h = idle ram_ghosts.state ram_ghosts.does (λ b. refl) p q h
 
-eprom_idle : (p q : EpromBank) → Drains eprom_state_of (λ b d c. c ≡ b) p q → q ≡ p
-eprom_idle p q h = idle eprom_state_of (λ b d c. c ≡ b) (λ b. refl) p q h
+eprom_idle : (p q : EpromBank) → Drains eprom_ghosts.state eprom_ghosts.does p q → q ≡ p
+eprom_idle p q h = idle eprom_ghosts.state eprom_ghosts.does (λ b. refl) p q h
 
 -- A map on the banks has the caller's records and bytes under it, and hands its low side back as it is.
-pub records_below : (b : RamBank) (m : CardMemory) (ls : List Line) → Drains ram_state_of RamDoes b m.low → b.lines.now ≡ ls → m.low.lines.now ≡ ls
+pub records_below : (b : RamBank) (m : CardMemory) (ls : List Line) → Drains ram_ghosts.state ram_ghosts.does b m.low → b.lines.now ≡ ls → m.low.lines.now ≡ ls
 records_below b m ls h e = ap (λ (x : RamBank). x.lines.now) (ram_idle b m.low h) ∙ e
 
-pub bytes_below : (b : EpromBank) (m : CardMemory) (bs : List ℕ) → Drains eprom_state_of (λ b d c. c ≡ b) b m.high → b.bytes.now ≡ bs → m.high.bytes.now ≡ bs
+pub bytes_below : (b : EpromBank) (m : CardMemory) (bs : List ℕ) → Drains eprom_ghosts.state eprom_ghosts.does b m.high → b.bytes.now ≡ bs → m.high.bytes.now ≡ bs
 bytes_below b m bs h e = ap (λ (x : EpromBank). x.bytes.now) (eprom_idle b m.high h) ∙ e
 
 pub handed_back : (b : RamBank) (m : CardMemory) (ls : List Line) → b ≡ m.low → ls ≡ b.lines.now → m.low.lines.now ≡ ls
 handed_back b m ls e h = sym (h ∙ ap (λ (x : RamBank). x.lines.now) e)
 
-drains_kept : (p q : RamBank) → Drains ram_state_of RamDoes p q → Kept p q
+drains_kept : (p q : RamBank) → Drains ram_ghosts.state ram_ghosts.does p q → Kept p q
 drains_kept p q h = same_kept p q (ram_idle p q h)
 
-posted_kept : (p q : RamBank) (w : Write) → Posted ram_state_of RamDoes p w q → Kept p q
+posted_kept : (p q : RamBank) (w : Store) → Posted ram_ghosts.state ram_ghosts.does p w q → Kept p q
 posted_kept p q w h = both_differ _ _ _ (ram_kept p h.between (writes w (Ok tt)) h.posts) (drains_kept h.between q h.drains)
 
 either : (t : Bool) (A B C : Type 0) → (A → C) → (B → C) → MatchBool t A B → C
 either true A B C f g h = f h
 either false A B C f g h = g h
 
-step_kept : (b c : CardMemory) (d : Step) → MemoryDoes b d c → Kept b.low c.low
+step_kept : (b c : CardMemory) (d : Step) → memory_ghosts.does b d c → Kept b.low c.low
 step_kept b c (reads w r) h =
-    either (ltb w (memory_state b).facts.words) _ _ _
-    (either (ltb w (ram_state_of b.low).facts.words) _ _ _ (λ s. ram_kept b.low c.low (reads w r) s.0) (λ s. same_kept b.low c.low s.0))
+    either (ltb w (memory_ghosts.state b).facts.words) _ _ _
+    (either (ltb w (ram_ghosts.state b.low).facts.words) _ _ _ (λ s. ram_kept b.low c.low (reads w r) s.0) (λ s. same_kept b.low c.low s.0))
     (λ e. same_kept b.low c.low (ap (λ (x : CardMemory). x.low) e)) h
 step_kept b c (writes w (Ok x)) h =
-    either (ltb w.word (ram_state_of b.low).facts.words) _ _ _ (λ s. posted_kept b.low c.low w s.0) (λ s. drains_kept b.low c.low s.0) h
+    either (ltb w.word (ram_ghosts.state b.low).facts.words) _ _ _ (λ s. posted_kept b.low c.low w s.0) (λ s. drains_kept b.low c.low s.0) h
 step_kept b c (writes w (Err e)) h = same_kept b.low c.low (ap (λ (x : CardMemory). x.low) h)
 step_kept b c advances h = ram_kept b.low c.low advances h.0
 step_kept b c (outsides w (Ok x)) h =
-    either (ltb w.word (ram_state_of b.low).facts.words) _ _ _ (λ s. ram_kept b.low c.low (outsides w (Ok tt)) s.0) (λ s. same_kept b.low c.low s.0) h
+    either (ltb w.word (ram_ghosts.state b.low).facts.words) _ _ _ (λ s. ram_kept b.low c.low (outsides w (Ok tt)) s.0) (λ s. same_kept b.low c.low s.0) h
 step_kept b c (outsides w (Err e)) h = same_kept b.low c.low (ap (λ (x : CardMemory). x.low) h)
 step_kept b c (snoops w (Ok x)) h =
-    either (ltb w (ram_state_of b.low).facts.words) _ _ _ (λ s. ram_kept b.low c.low (snoops w (Ok tt)) s.0) (λ s. same_kept b.low c.low s.0) h
+    either (ltb w (ram_ghosts.state b.low).facts.words) _ _ _ (λ s. ram_kept b.low c.low (snoops w (Ok tt)) s.0) (λ s. same_kept b.low c.low s.0) h
 step_kept b c (snoops w (Err e)) h = same_kept b.low c.low (ap (λ (x : CardMemory). x.low) h)
 step_kept b c flushes h = ram_kept b.low c.low flushes h.0
 
-chain_kept : (b c : CardMemory) (ds : List Step) → Chain MemoryDoes b ds c → Kept b.low c.low
+chain_kept : (b c : CardMemory) (ds : List Step) → Chain memory_ghosts.does b ds c → Kept b.low c.low
 chain_kept b _ _ done = none_differ b.low.lines.now
 chain_kept b _ _ (then {q = m} {r = c} {d = d} {ds = ds} h rest) = both_differ _ _ _ (step_kept b m d h) (chain_kept m c ds rest)
 
@@ -141,23 +141,23 @@ ran_fits (Err fault) size cs e = let z : ◌≡◌ {A = ℕ} 0 1 = cc in absurd 
 
 module _ (before after : List Line) (image : List ℕ) (memory left : CardMemory) (cs : List Call) (rs : List (Result Answer Fault)) (waiting : ℕ)
     (low : memory.low.lines.now ≡ before) (high : memory.high.bytes.now ≡ image) (handed : left.low.lines.now ≡ after)
-    (run : RunOnTheStages memory_state MemoryDoes memory cs rs waiting left) where
+    (run : RunOnTheStages memory_ghosts memory cs rs waiting left) where
   others : OnlyWordsDiffer before after
   others = subst₂ OnlyWordsDiffer low handed (chain_kept memory left run.reached.calls run.reached.chain)
 
-  begins : pile_state memory_state run.made ≡ first_state before image
+  begins : pile_state memory_ghosts run.made ≡ first_state before image
   begins =
-      ap₂ (λ (p : CardMemory) ws. raised (buffered (memory_state p) ws)) run.fresh.memory_below run.fresh.no_write
+      ap₂ (λ (p : CardMemory) ws. raised (buffered (memory_ghosts.state p) ws)) run.fresh.memory_below run.fresh.no_write
       ∙ ap₂ (λ (ls : List Line) (bs : List ℕ). first_state ls bs) low high
 
   -- below the end of RAM the pile's settled memory is the bank's
-  words : words_of_lines (length before) ≡ length before * 8 → (a : ℕ) → a < length before * 8 → (memory_of after).word a ≡ (pile_state memory_state run.pile).settled.word a
+  words : words_of_lines (length before) ≡ length before * 8 → (a : ℕ) → a < length before * 8 → (memory_of after).word a ≡ (pile_state memory_ghosts run.pile).settled.word a
   words fits a lt =
       let size : words_of_lines (length left.low.lines.now) ≡ length before * 8 = ap words_of_lines (ap length handed ∙ others.count) ∙ fits in
       let here : ltb a (words_of_lines (length left.low.lines.now)) ≡ true = lt-ltb a _ (subst (λ n. a < n) (sym size) lt) in
       ap (λ (ls : List Line). (memory_of ls).word a) (sym handed)
-      ∙ sym (ap (λ t. cond t ((memory_of left.low.lines.now).word a) ((eprom_state_of left.high).settled.word (a - words_of_lines (length left.low.lines.now)))) here)
-      ∙ sym (ap (λ (p : CardMemory). (memory_state p).settled.word a) run.handed)
+      ∙ sym (ap (λ t. cond t ((memory_of left.low.lines.now).word a) ((eprom_ghosts.state left.high).settled.word (a - words_of_lines (length left.low.lines.now)))) here)
+      ∙ sym (ap (λ (p : CardMemory). (memory_ghosts.state p).settled.word a) run.handed)
 
   card_keeps : (list : Result (List Call) Fault) → unless_unfit list (card_size (length before) (length image)) ≡ Ok cs → CardKeepsItsPromise before image cs rs waiting after
   card_keeps list e =
@@ -174,7 +174,7 @@ module _ (before after : List Line) (image : List ℕ) (memory left : CardMemory
 -- The calls that are run are those of the list, as a slice of them shows.
 pub promise_kept : (before after : List Line) (image : List ℕ) (memory left : CardMemory) (cs ds : List Call) (rs : List (Result Answer Fault)) (waiting : ℕ) (list : Result (List Call) Fault)
     → memory.low.lines.now ≡ before → memory.high.bytes.now ≡ image → left.low.lines.now ≡ after
-    → RunOnTheStages memory_state MemoryDoes memory ds rs waiting left → ds ≡ cs → unless_unfit list (card_size (length before) (length image)) ≡ Ok cs
+    → RunOnTheStages memory_ghosts memory ds rs waiting left → ds ≡ cs → unless_unfit list (card_size (length before) (length image)) ≡ Ok cs
     → CardKeepsItsPromise before image cs rs waiting after
 promise_kept before after image memory left cs ds rs waiting list low high handed run same e =
-    card_keeps before after image memory left cs rs waiting low high handed (subst (λ xs. RunOnTheStages memory_state MemoryDoes memory xs rs waiting left) same run) list e
+    card_keeps before after image memory left cs rs waiting low high handed (subst (λ xs. RunOnTheStages memory_ghosts memory xs rs waiting left) same run) list e

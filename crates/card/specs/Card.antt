@@ -3,9 +3,9 @@ use Rattle.std.specs.Prelude.{◌≡◌, ℕ, ◌+◌, ◌*◌, ◌<◌, List, l
 use Rattle.fault.specs.declared.Fault.{Fault}
 use Rattle.calls.specs.declared.call.Call.{Call}
 use Rattle.calls.specs.Format.{meaning}
+use Rattle.port.specs.declared.Port.{Ghosts}
 use Rattle.port.specs.Memory.{State, raised}
 use Rattle.port.specs.Meaning.{then_ok}
-use Rattle.port.specs.Steps.{Step}
 use Rattle.banks.specs.declared.line.Line.{Line}
 use Rattle.banks.specs.declared.ram.RamBank.{RamBank}
 use Rattle.banks.specs.declared.eprom.EpromBank.{EpromBank}
@@ -14,10 +14,9 @@ use Rattle.banks.specs.Lines.{line_at, memory_of}
 use Rattle.banks.specs.Ram.{ram_state, RamDoes}
 use Rattle.banks.specs.Eprom.{eprom_state}
 use Rattle.joined_map.specs.declared.JoinedMap.{JoinedMap}
-use Rattle.joined_map.specs.Joint.{joint_state, MapDoes}
+use Rattle.joined_map.specs.Joint.{joint_state}
+use Rattle.joined_map.specs.Steps.{MapDoes}
 use Rattle.book.specs.declared.answer.Answer.{Answer}
-use Rattle.card.specs.declared.whole.Stop.{Stop}
-use Rattle.card.specs.declared.whole.Stop.TheVariants.{Refused, Memory}
 use Rattle.card.specs.Stages.{pile_state, RunOnTheStages}
 
 -- How many words the card has: RAM, EPROM and both together have to be of fit size.
@@ -32,26 +31,18 @@ unless_unfit (Err fault) size = Err fault
 abbrev pub calls_to_run : List ℕ → List Line → List ℕ → Result (List Call) Fault
 calls_to_run list lines image = unless_unfit (meaning list) (card_size (length lines) (length image))
 
--- Want of memory says nothing of the list or the sizes.
-abbrev pub Stops : Stop → Result (List Call) Fault → Type 0
-Stops (Refused fault) calls = calls ≡ Err fault
-Stops Memory calls = Unit {0}
-
 -- The memory under the stages.
+abbrev pub ram_ghosts : Ghosts RamBank
+ram_ghosts = record { state = λ b. ram_state b.lines.now; does = RamDoes }
+
+abbrev pub eprom_ghosts : Ghosts EpromBank
+eprom_ghosts = record { state = λ b. eprom_state b.bytes.now; does = λ b d c. c ≡ b }
+
 abbrev pub CardMemory : Type 0
-CardMemory = JoinedMap RamBank EpromBank
+CardMemory = JoinedMap RamBank EpromBank ram_ghosts eprom_ghosts
 
-abbrev pub ram_state_of : RamBank → State
-ram_state_of b = ram_state b.lines.now
-
-abbrev pub eprom_state_of : EpromBank → State
-eprom_state_of b = eprom_state b.bytes.now
-
-abbrev pub memory_state : CardMemory → State
-memory_state b = joint_state (ram_state_of b.low) (eprom_state_of b.high)
-
-abbrev pub MemoryDoes : CardMemory → Step → CardMemory → Type 0
-MemoryDoes = MapDoes ram_state_of RamDoes eprom_state_of (λ b d c. c ≡ b)
+abbrev pub memory_ghosts : Ghosts CardMemory
+memory_ghosts = record { state = λ b. joint_state (ram_ghosts.state b.low) (eprom_ghosts.state b.high); does = MapDoes }
 
 -- What the pile shows before the first call: the records and then the image, with nothing waiting.
 abbrev pub first_state : List Line → List ℕ → State
@@ -69,7 +60,7 @@ pub record OnlyWordsDiffer (before after : List Line) : Type 0 where
 pub record CardKeepsItsPromise (before : List Line) (image : List ℕ) (cs : List Call) (rs : List (Result Answer Fault)) (waiting : ℕ) (after : List Line) : Type 0 where
   pub memory : CardMemory
   pub left : CardMemory
-  pub run : RunOnTheStages memory_state MemoryDoes memory cs rs waiting left
-  pub begins : pile_state memory_state run.made ≡ first_state before image
-  pub words : (a : ℕ) → a < length before * 8 → (memory_of after).word a ≡ (pile_state memory_state run.pile).settled.word a
+  pub run : RunOnTheStages memory_ghosts memory cs rs waiting left
+  pub begins : pile_state memory_ghosts run.made ≡ first_state before image
+  pub words : (a : ℕ) → a < length before * 8 → (memory_of after).word a ≡ (pile_state memory_ghosts run.pile).settled.word a
   pub others : OnlyWordsDiffer before after

@@ -2,6 +2,7 @@
 use Rattle.std.specs.Prelude.{◌≡◌, ℕ, List, [], Result}
 use Rattle.fault.specs.declared.Fault.{Fault}
 use Rattle.calls.specs.declared.call.Call.{Call}
+use Rattle.port.specs.declared.Port.{Ghosts}
 use Rattle.port.specs.Memory.{State, raised}
 use Rattle.port.specs.Meaning.{waiting_answer}
 use Rattle.port.specs.Steps.{Step, Chain}
@@ -17,21 +18,21 @@ use Rattle.book.specs.declared.answer.Mode.{Mode}
 use Rattle.book.specs.declared.answer.Answer.{Answer}
 use Rattle.book.specs.Promise.{NeverAnOldDigit}
 
-abbrev pub Pile : Type 0 → Type 0
-Pile P = Cache (WriteBuffer P)
+-- What the buffer means over a memory, and what the cache means over the buffer; and what their calls do.
+abbrev pub buffer_ghosts : {P : Type 0} (G : Ghosts P) → Ghosts (WriteBuffer P G)
+buffer_ghosts G = record { state = λ b. buffered (G.state b.below) (queued b.queue); does = BufferDoes }
 
--- What the buffer means over a memory, and what the cache means over the buffer.
-abbrev pub buffer_state : {P : Type 0} → (P → State) → WriteBuffer P → State
-buffer_state state b = buffered (state b.below) (queued b.queue)
+abbrev pub Pile : {P : Type 0} → Ghosts P → Type 0
+Pile {P} G = Cache (WriteBuffer P G) (buffer_ghosts G)
 
-abbrev pub pile_state : {P : Type 0} → (P → State) → Pile P → State
-pile_state state c = raised (buffer_state state c.below)
+abbrev pub pile_state : {P : Type 0} (G : Ghosts P) → Pile G → State
+pile_state G c = raised ((buffer_ghosts G).state c.below)
 
-abbrev pub PileDoes : {P : Type 0} → (P → State) → (P → Step → P → Type 0) → Pile P → Step → Pile P → Type 0
-PileDoes state does = CacheDoes (buffer_state state) (BufferDoes state does)
+abbrev pub pile_ghosts : {P : Type 0} (G : Ghosts P) → Ghosts (Pile G)
+pile_ghosts G = record { state = pile_state G; does = CacheDoes }
 
 -- Stages that were just put on a memory hold nothing.
-pub record Fresh {P : Type 0} (memory : P) (c : Pile P) : Type 0 where
+pub record Fresh {P : Type 0} {G : Ghosts P} (memory : P) (c : Pile G) : Type 0 where
   pub memory_below : c.below.below ≡ memory
   pub no_write : queued c.below.queue ≡ []
   pub no_line : tables_of c ≡ cleared
@@ -43,12 +44,12 @@ pub record Reached {P : Type 0} (does : P → Step → P → Type 0) (p q : P) :
 
 -- Calls run on a board over fresh stages on a memory: the promise about old digits holds of the whole pile. The memory that is
 -- handed back is the one at the bottom of the pile, and was changed by nothing but calls of its own.
-pub record RunOnTheStages {P : Type 0} (state : P → State) (does : P → Step → P → Type 0) (memory : P) (cs : List Call) (rs : List (Result Answer Fault)) (waiting : ℕ) (left : P) : Type 0 where
-  pub made : Pile P
+pub record RunOnTheStages {P : Type 0} (G : Ghosts P) (memory : P) (cs : List Call) (rs : List (Result Answer Fault)) (waiting : ℕ) (left : P) : Type 0 where
+  pub made : Pile G
   pub fresh : Fresh memory made
   pub mode : Mode
-  pub pile : Pile P
+  pub pile : Pile G
   pub handed : pile.below.below ≡ left
-  pub promise : NeverAnOldDigit (pile_state state) (PileDoes state does) made cs rs mode pile
-  pub counted : waiting ≡ waiting_answer (pile_state state pile)
-  pub reached : Reached does memory left
+  pub promise : NeverAnOldDigit (pile_ghosts G) made cs rs mode pile
+  pub counted : waiting ≡ waiting_answer (pile_state G pile)
+  pub reached : Reached G.does memory left

@@ -2,13 +2,13 @@
 ghost use Rattle.std.specs.Prelude.{◌≡◌, MatchResult};
 ghost use Rattle.card.specs.Stages.{RunOnTheStages};
 
-use board::{NoMemory, run};
+use board::run;
 use book::Answer;
 use cache::Cache;
 use calls::Call;
 use fault::Fault;
 use port::Port;
-use std::alloc::Global;
+use std::alloc::{AllocFailed, Global};
 use write_buffer::WriteBuffer;
 
 /// A memory after a list of calls was run on the stages over it.
@@ -21,14 +21,13 @@ pub struct StagesRun<M: Port> {
 
 /// Runs calls on a board over a cache over a write buffer over a memory, and hands the memory back.
 pub fn run_on_stages<M: Port>(
-    heap: Global,
+    alloc: Global,
     memory: M,
     calls: &[Call],
-) -> Result<StagesRun<M>, NoMemory<M>>
-    requires { M.sound memory }
-    ensures { MatchResult result (λ ran. RunOnTheStages M.state M.does memory calls.now ran.answers.items ran.waiting ran.memory) (λ none. none.back ≡ memory) }
+) -> Result<StagesRun<M>, AllocFailed<M>>
+    ensures { MatchResult result (λ ran. RunOnTheStages M.Port memory calls.now ran.answers.items ran.waiting ran.memory) (λ failed. failed.value ≡ memory) }
 {
-    match run(heap, Cache::new(WriteBuffer::new(memory)), calls) {
+    match run(alloc, Cache::new(WriteBuffer::new(memory)), calls) {
         Ok(outcome) => {
             let waiting = outcome.board.waiting();
             let (memory, _) = outcome.board.into_port().into_below().into_parts();
@@ -38,9 +37,9 @@ pub fn run_on_stages<M: Port>(
                 waiting,
             })
         }
-        Err(none) => {
-            let (memory, _) = none.back.into_below().into_parts();
-            Err(NoMemory { back: memory })
+        Err(failed) => {
+            let (memory, _) = failed.value.into_below().into_parts();
+            Err(AllocFailed { value: memory })
         }
     }
 }

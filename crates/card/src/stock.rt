@@ -23,31 +23,22 @@ fn stock_line(line: usize) -> Line
         readable[TORN_WORD % 8] = false;
     }
     Line {
-        words: [0; 8],
         cacheable: line != RAM_LINES - 1,
-        protect: false,
         readable,
+        ..Line::ZEROED
     }
 }
 
 /// Zeroed RAM, all of it unprotected, with the last line uncacheable and word 37 unreadable.
-pub fn stock_lines(heap: Global) -> Result<Vec<Line>, AllocError>
+pub fn stock_lines(alloc: Global) -> Result<Vec<Line>, AllocError>
     ensures { IfOk result (λ lines. StockLines lines.items) }
 {
-    let mut lines = Vec::new(heap);
-    for line in 0..RAM_LINES {
-        lines.push(stock_line(line))?;
-    }
-    Ok(lines)
+    (0..RAM_LINES).map(stock_line).collect(alloc)
 }
 
 /// An EPROM image whose byte i is i mod 256.
-pub fn stock_image(heap: Global) -> Result<Vec<u8>, AllocError>
+pub fn stock_image(alloc: Global) -> Result<Vec<u8>, AllocError>
     ensures { IfOk result (λ bytes. StockImage bytes.items) }
 {
-    let mut bytes = Vec::new(heap);
-    for i in 0..EPROM_BYTES {
-        bytes.push((i % 256) as u8)?;
-    }
-    Ok(bytes)
+    (0..EPROM_BYTES).map(|i| (i % 256) as u8).collect(alloc)
 }

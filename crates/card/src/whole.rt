@@ -1,16 +1,17 @@
 //! A whole list run on the whole card.
 ghost use Rattle.std.specs.Prelude.{◌≡◌, length, Ok, MatchResult};
-ghost use Rattle.card.specs.Card.{card_size, calls_to_run, Stops, CardKeepsItsPromise};
+ghost use Rattle.calls.specs.Whole.{Told};
+ghost use Rattle.card.specs.Card.{card_size, calls_to_run, CardKeepsItsPromise};
 
 use super::stages::run_on_stages;
-use banks::{EpromBank, Line, RamBank, eprom_size, ram_size, size_of_lines};
+use banks::{EpromBank, Line, RamBank, eprom_size, joint_size, ram_size};
 use book::Answer;
-use calls::{Call, ListError, read_list};
+use calls::{Call, Stop, read_list};
 use fault::Fault;
 use joined_map::JoinedMap;
 use std::alloc::Global;
 
-/// What a list of calls came to.
+/// What a list of calls came to. The calls and their answers are two lists, as the promise about them speaks of two.
 #[derive(Drop)]
 pub struct CardRun<'a> {
     /// The caller's records, with what memory holds now.
@@ -20,15 +21,6 @@ pub struct CardRun<'a> {
     pub answers: Vec<Result<Answer, Fault>>,
     /// How many writes wait in the end.
     pub waiting: u32,
-}
-
-/// Why no call was run.
-#[derive(Clone, Copy, Debug, PartialEq)]
-pub enum Stop {
-    /// The list or a size is refused.
-    Refused(Fault),
-    /// There is no memory for the calls or their answers.
-    Memory,
 }
 
 /// No call was run, and the caller's records are as they were.
@@ -44,39 +36,34 @@ pub fn card_words(lines: &[Line], image: &[u8]) -> Result<u32, Fault>
 {
     let ram = ram_size(lines)?;
     let eprom = eprom_size(image)?;
-    size_of_lines((ram as usize + eprom as usize) / 8)
+    joint_size(ram, eprom)
 }
 
 // The calls of a list that can be run on a card of these records and bytes.
-fn calls_to_run(heap: Global, lines: &[Line], image: &[u8], list: &[u8]) -> Result<Vec<Call>, Stop>
-    ensures { MatchResult result (λ calls. calls_to_run list.now lines.now image.now ≡ Ok calls.items) (λ stop. Stops stop (calls_to_run list.now lines.now image.now)) }
+fn calls_to_run(alloc: Global, lines: &[Line], image: &[u8], list: &[u8]) -> Result<Vec<Call>, Stop>
+    ensures { MatchResult result (λ calls. calls_to_run list.now lines.now image.now ≡ Ok calls.items) (λ stop. Told stop (calls_to_run list.now lines.now image.now)) }
 {
-    match read_list(heap, list) {
-        Ok(calls) => match card_words(lines, image) {
-            Ok(_) => Ok(calls),
-            Err(fault) => Err(Stop::Refused(fault)),
-        },
-        Err(ListError::Refused(fault)) => Err(Stop::Refused(fault)),
-        Err(ListError::Memory) => Err(Stop::Memory),
-    }
+    let calls = read_list(alloc, list)?;
+    card_words(lines, image)?;
+    Ok(calls)
 }
 
 /// Runs a call list on a card of the caller's RAM records and EPROM bytes.
 pub fn run_card<'a>(
-    heap: Global,
+    alloc: Global,
     lines: &'a mut [Line],
     image: &[u8],
     list: &[u8],
 ) -> Result<CardRun<'a>, NotRun<'a>>
-    ensures calls { MatchResult result (λ run. calls_to_run list.now lines.old image.now ≡ Ok run.calls.items) (λ none. Stops none.stop (calls_to_run list.now lines.old image.now)) }
+    ensures calls { MatchResult result (λ run. calls_to_run list.now lines.old image.now ≡ Ok run.calls.items) (λ none. Told none.stop (calls_to_run list.now lines.old image.now)) }
     ensures promise { MatchResult result (λ run. CardKeepsItsPromise lines.old image.now run.calls.items run.answers.items run.waiting run.lines.now) (λ none. none.lines.now ≡ lines.old) }
 {
-    let calls = match calls_to_run(heap, lines, image, list) {
+    let calls = match calls_to_run(alloc, lines, image, list) {
         Ok(calls) => calls,
         Err(stop) => return Err(NotRun { lines, stop }),
     };
     let memory = JoinedMap::new(RamBank::new(lines), EpromBank::new(image));
-    match run_on_stages(heap, memory, &calls) {
+    match run_on_stages(alloc, memory, &calls) {
         Ok(ran) => {
             let (ram, _) = ran.memory.into_sides();
             Ok(CardRun {
@@ -86,8 +73,8 @@ pub fn run_card<'a>(
                 waiting: ran.waiting,
             })
         }
-        Err(none) => {
-            let (ram, _) = none.back.into_sides();
+        Err(failed) => {
+            let (ram, _) = failed.value.into_sides();
             Err(NotRun {
                 lines: ram.into_lines(),
                 stop: Stop::Memory,

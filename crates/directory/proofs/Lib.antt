@@ -1,7 +1,7 @@
-pub mod Touching
-pub mod Looking
+pub mod Numbering
+pub mod Ticking
 pub mod Views
 pub mod Apart
 pub mod Changing
-pub mod Ticking
+pub mod Looking
 pub mod Trying

@@ -1,16 +1,38 @@
 -- Ticks and places: facts of small numbers, by one computed test each.
-use Rattle.std.proofs.Common.{◌≡◌, ℕ, suc, ◌+◌, ◌*◌, ◌%◌, ◌^◌, ◌<◌, Bool, true, false, cond, not, ◌&&◌, ◌||◌, eqb, ltb, ◌≢◌, get_or, set, Some, None, sym, refl, ap, ◌∙◌, subst, ap₂, inl, inr, add-one, arith, length-set}
+use Rattle.std.proofs.Common.{◌≡◌, ℕ, zero, suc, ◌+◌, ◌*◌, ◌%◌, ◌^◌, ◌<◌, Bool, true, false, cond, not, ◌&&◌, ◌||◌, eqb, ltb, ◌≢◌, get_or, set, Some, None, sym, refl, ap, ◌∙◌, subst, ap₂, inl, inr, add-one, arith, length-set}
 use lib.Bits.{bit_or}
 use lib.Count.{ones, ones_in}
 use Rattle.std.proofs.lemmas.Nat.{one_shl, div-mul-add, mod-mul-add}
 use Rattle.std.proofs.lemmas.List.{get_or-set_same, get_or-set_other}
+use Rattle.std.proofs.lemmas.Bool.Decides.{Decides-below_and}
 use Rattle.std.proofs.lemmas.Bool.{or_cases, eqb-true, eq-eqb, ltb-true, both_ways, not_from_true, cases_eq, ne_eqb, cond-true, cond-false, and_from, and_left, or_right}
 use Rattle.directory.specs.declared.marks.WayNumber.{WayNumber}
 use Rattle.directory.specs.declared.fills.Fill.{Fill}
 use Rattle.directory.specs.Dirs.{line_of, place_of}
 use Rattle.directory.specs.Ticks.{ticked, tick, place_at, ticks_after, next_place, next_word, fetched_word, starting, stored, Ordered, UnderWay}
 use Rattle.directory.specs.Laws.{FillVisitsEachPlaceOnce, NewTickAddsOne, StoreAddsItsWord, EightTicksAreAll}
-use Rattle.directory.proofs.Touching.{passes, below, below_both, agree, agree_same}
+
+-- the test p passes at each number below n
+abbrev passes : (ℕ → Bool) → ℕ → Bool
+passes p zero = true
+passes p (suc n) = p n && passes p n
+
+below : (p : ℕ → Bool) (n : ℕ) → passes p n ≡ true → (k : ℕ) → k < n → p k ≡ true
+below p n t = (Decides-below_and p (λ k. p k ≡ true) (passes p) (λ k. ((λ e. e), (λ e. e))) refl (λ _. refl) n).0 t
+
+-- and at each pair
+below_both : (p : ℕ → ℕ → Bool) (n m : ℕ) → passes (λ a. passes (p a) m) n ≡ true → (a b : ℕ) → a < n → b < m → p a b ≡ true
+below_both p n m t a b h k = below (p a) m (below (λ x. passes (p x) m) n t a h) b k
+
+abbrev agree : Bool → Bool → Bool
+agree true b = b
+agree false b = not b
+
+agree_same : (x y : Bool) → agree x y ≡ true → x ≡ y
+agree_same true true e = refl
+agree_same true false e = sym e
+agree_same false true e = e
+agree_same false false e = refl
 
 abbrev adds : ℕ → ℕ → Bool
 adds t p = ticked t p || eqb (ones (tick t p)) (ones t + 1)

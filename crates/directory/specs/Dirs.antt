@@ -1,11 +1,12 @@
 -- The directory as it can be asked for, by set and way.
-use Rattle.std.specs.Prelude.{ℕ, zero, suc, ◌+◌, ◌/◌, ◌%◌, Bool, cond, not, ◌&&◌, List, get_or, Some, None, count_by, Option, ◌==◌, slice_index_or}
+use Rattle.std.specs.Prelude.{ℕ, zero, suc, ◌+◌, ◌/◌, ◌%◌, Bool, false, cond, not, ◌&&◌, List, Some, None, is_some, find, count_by, Option, ◌==◌, slice_index_or}
+use Rattle.std.specs.Option.{option_map}
 use Rattle.directory.specs.declared.marks.Marks.{Marks}
 use Rattle.directory.specs.declared.marks.WayNumber.{WayNumber}
 use Rattle.directory.specs.declared.sets.Way.{Way}
 use Rattle.directory.specs.declared.sets.SetRecord.{SetRecord}
 use Rattle.directory.specs.Touch.{same_way, every_way, no_marks, touched_marks}
-use Rattle.directory.specs.Sets.{no_set, empty_way, filled_way, worded_way, masked, way_in, has_tag, first_way}
+use Rattle.directory.specs.Sets.{no_set, filled_way, worded_way, way_in, has_tag}
 
 -- A line is eight words; it belongs to one set, and its tag tells it from the other lines of that set.
 abbrev pub line_of : ℕ → ℕ
@@ -20,21 +21,21 @@ set_of line = line % 256
 abbrev pub tag_of : ℕ → ℕ
 tag_of line = line / 256
 
--- All that can be asked of a directory: an invalid way shows nothing of what it held.
+-- All that can be asked of a directory: what each way of a set holds, and the marks of the set. A way is valid where it holds something.
 pub record Dir : Type 0 where
-  pub way : ℕ → WayNumber → Way
+  pub way : ℕ → WayNumber → Option Way
   pub marks : ℕ → Marks
 
 abbrev pub view_of : List SetRecord → Dir
-view_of sets = record { way = λ i k. way_in (slice_index_or sets i no_set) k; marks = λ i. (get_or sets i no_set).marks }
+view_of sets = record { way = λ i k. way_in (slice_index_or sets i no_set) k; marks = λ i. (slice_index_or sets i no_set).marks }
 
 -- No valid way, and no set touched.
 abbrev pub emptied : Dir
-emptied = record { way = λ i k. empty_way; marks = λ i. no_marks }
+emptied = record { way = λ i k. None; marks = λ i. no_marks }
 
 -- Way k of set i becomes w.
-abbrev pub put : Dir → ℕ → WayNumber → Way → Dir
-put d i k w = record { way = λ j l. cond (j == i && same_way l k) (masked w) (d.way j l); marks = d.marks }
+abbrev pub put : Dir → ℕ → WayNumber → Option Way → Dir
+put d i k w = record { way = λ j l. cond (j == i && same_way l k) w (d.way j l); marks = d.marks }
 
 -- Way k of set i is touched.
 abbrev pub touched : Dir → ℕ → WayNumber → Dir
@@ -46,27 +47,29 @@ holds d line k = has_tag (tag_of line) (d.way (set_of line) k)
 
 -- The way that holds the line.
 abbrev pub found : Dir → ℕ → Option WayNumber
-found d line = first_way (holds d line) every_way
+found d line = find (holds d line) every_way
 
 -- A line goes into way k of its set, all of it at once, and the way is touched.
 abbrev pub installed : Dir → ℕ → WayNumber → Bool → List ℕ → Dir
-installed d line k protect words = touched (put d (set_of line) k (filled_way (tag_of line) protect words)) (set_of line) k
+installed d line k protect words = touched (put d (set_of line) k (Some (filled_way (tag_of line) protect words))) (set_of line) k
 
 -- The way that holds a line becomes invalid; the marks stay.
 abbrev pub dropped_of : Dir → ℕ → Option WayNumber → Dir
 dropped_of d line None = d
-dropped_of d line (Some k) = put d (set_of line) k empty_way
+dropped_of d line (Some k) = put d (set_of line) k None
 
 abbrev pub dropped : Dir → ℕ → Dir
 dropped d line = dropped_of d line (found d line)
 
 -- One word of way k of the word's set is changed, where the way is valid.
 abbrev pub changed : Dir → ℕ → WayNumber → ℕ → Dir
-changed d word k value = put d (set_of (line_of word)) k (worded_way (d.way (set_of (line_of word)) k) (place_of word) value)
+changed d word k value =
+    put d (set_of (line_of word)) k (option_map (λ w. worded_way w (place_of word) value) (d.way (set_of (line_of word)) k))
 
 -- Two valid ways of one tag.
-abbrev pub twin_ways : Way → Way → Bool
-twin_ways x y = (x.valid && y.valid) && x.tag == y.tag
+abbrev pub twin_ways : Option Way → Option Way → Bool
+twin_ways (Some x) (Some y) = x.tag == y.tag
+twin_ways x y = false
 
 abbrev pub twins : Dir → ℕ → WayNumber → WayNumber → Bool
 twins d i j k = not (same_way j k) && twin_ways (d.way i j) (d.way i k)
@@ -77,7 +80,7 @@ sum_below f zero = 0
 sum_below f (suc n) = sum_below f n + f n
 
 abbrev pub valid_in : Dir → ℕ → ℕ
-valid_in d i = count_by (λ k. (d.way i k).valid) every_way
+valid_in d i = count_by (λ k. is_some (d.way i k)) every_way
 
 abbrev pub valid_ways : Dir → ℕ
 valid_ways d = sum_below (valid_in d) 256

@@ -1,5 +1,6 @@
 -- What can be asked of a directory.
-use Rattle.std.specs.Prelude.{ℕ, cond, Some, None, Option, nat_lt}
+use Rattle.std.specs.Prelude.{ℕ, false, cond, Some, None, Option, is_some, nat_lt}
+use Rattle.std.specs.Option.{option_map_or}
 use Rattle.directory.specs.declared.marks.WayNumber.{WayNumber}
 use Rattle.directory.specs.declared.directory.Directory.{Directory}
 use Rattle.directory.specs.declared.directory.questions.WayState.{WayState}
@@ -13,7 +14,12 @@ view d = view_of d.sets
 abbrev pub way_state : Dir → ℕ → Option WayNumber → Option WayState
 way_state d i None = None
 way_state d i (Some k) =
-    Some (record { valid = (d.way i k).valid; protect = (d.way i k).protect; tag = (d.way i k).tag; marks = d.marks i })
+    Some (record {
+      valid = is_some (d.way i k);
+      protect = option_map_or (λ w. w.protect) (d.way i k) false;
+      tag = option_map_or (λ w. w.tag) (d.way i k) 0;
+      marks = d.marks i;
+    })
 
 abbrev pub inspected : Dir → ℕ → ℕ → Option WayState
 inspected d set way = cond (nat_lt set 256) (way_state d set (way_numbered way)) None

@@ -5,8 +5,9 @@ ghost use Rattle.directory.specs.Laws.{FillVisitsEachPlaceOnce, NewTickAddsOne, 
 
 use super::marks::WayNumber;
 
-/// A fill under way. The ones of its ticks count the words that have come.
-#[derive(Clone, Copy)]
+/// A fill under way. That its ticks are in order is asked of callers, and not kept in a ghost field: the rules build fills as
+/// plain records.
+#[derive(Clone, Copy, Debug, PartialEq)]
 pub struct Fill {
     pub line: u32,
     /// The place in the line that is fetched first; step k fetches this place XOR k.
@@ -14,7 +15,7 @@ pub struct Fill {
     /// The way that the line goes into, as the marks named it at the miss.
     pub way: WayNumber,
     pub protect: bool,
-    /// A bit for each place that has been fetched.
+    /// A bit for each place that has been fetched: its ones count the words that have come, and eight complete the fill, as the users asked.
     pub ticks: u8,
     pub words: [u16; 8],
 }

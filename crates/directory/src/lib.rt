@@ -8,7 +8,7 @@ mod sets;
 
 pub use directory::{Directory, WayState};
 pub use fills::Fill;
-pub use marks::{Marks, WayNumber};
+pub use marks::{Marks, NoSuchWay, WayNumber};
 pub use sets::Way;
 
 #[cfg(test)]

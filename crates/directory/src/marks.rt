@@ -1,6 +1,7 @@
 //! The four ways of a set, and the three marks that say which of them the next line replaces.
 ghost use Rattle.std.specs.Prelude.{◌≡◌, ℕ, ◌<◌};
-ghost use Rattle.directory.specs.Touch.{index_of, way_numbered, number_of, touched_marks, victim_of};
+ghost use Rattle.std.specs.Result.{result_ok};
+ghost use Rattle.directory.specs.Touch.{way_numbered, number_of, touched_marks, victim_of};
 ghost use Rattle.directory.specs.Laws.{TouchedWayIsSpared};
 
 /// One of the four ways of a set.
@@ -20,30 +21,23 @@ pub const WAYS: [WayNumber; 4] = [
     WayNumber::Three,
 ];
 
-impl WayNumber {
-    /// The way with that number, where a set has one.
-    pub fn new(number: u32) -> Option<WayNumber>
-        ensures { result ≡ way_numbered number }
-    {
-        match number {
-            0 => Some(WayNumber::Zero),
-            1 => Some(WayNumber::One),
-            2 => Some(WayNumber::Two),
-            3 => Some(WayNumber::Three),
-            _ => None,
-        }
-    }
+/// A number that no way of a set has.
+#[derive(Clone, Copy, Debug, PartialEq)]
+pub struct NoSuchWay;
 
-    /// Where the way stands in its set.
-    pub fn index(self) -> usize
-        ensures value { result ≡ index_of self }
-        ensures small { result < 4 }
-    {
-        match self {
-            WayNumber::Zero => 0,
-            WayNumber::One => 1,
-            WayNumber::Two => 2,
-            WayNumber::Three => 3,
+impl TryFrom<u32> for WayNumber {
+    type Error = NoSuchWay;
+
+    ghost try_from_gives = { λ number answer. result_ok answer ≡ way_numbered number };
+
+    /// The way with that number, where a set has one.
+    fn try_from(number: u32) -> Result<Self, NoSuchWay> {
+        match number {
+            0 => Ok(WayNumber::Zero),
+            1 => Ok(WayNumber::One),
+            2 => Ok(WayNumber::Two),
+            3 => Ok(WayNumber::Three),
+            _ => Err(NoSuchWay),
         }
     }
 }
@@ -124,7 +118,7 @@ const TOUCHED: [[Marks; 4]; 8] = [
 pub const NO_MARKS: Marks = M000;
 
 impl Marks {
-    // The number of this setting: m0 counts 1, m1 2 and m2 4.
+    // The number of this setting, by which the table of 32 entries is read, as the users asked for: m0 counts 1, m1 2 and m2 4.
     fn number(self) -> usize
         ensures value { result ≡ number_of self }
         ensures small { result < 8 }
@@ -137,7 +131,7 @@ impl Marks {
         ensures value { result ≡ touched_marks self way }
         ensures law { TouchedWayIsSpared }
     {
-        TOUCHED[self.number()][way.index()]
+        TOUCHED[self.number()][way as usize]
     }
 
     /// The way that the next line replaces. An invalid way is not preferred.

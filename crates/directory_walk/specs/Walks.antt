@@ -1,6 +1,7 @@
 -- What a walk through the cache directory finds.
 use Rattle.std.specs.Prelude.{◌≡◌, ℕ, List, [], ◌∷◌, map, vec_items}
-use Rattle.port.specs.Memory.{State, floor_above}
+use Rattle.port.specs.declared.Port.{Ghosts}
+use Rattle.port.specs.Memory.{floor_above}
 use Rattle.directory.specs.Dirs.{Dir, valid_ways}
 use Rattle.cache.specs.declared.cache.Cache.{Cache}
 use Rattle.cache.specs.Doing.{tables_of, inspect_answer}
@@ -14,10 +15,10 @@ set_told d floor set = record {
   ways = inspect_answer d floor set 0 ∷ inspect_answer d floor set 1 ∷ inspect_answer d floor set 2 ∷ inspect_answer d floor set 3 ∷ [];
 }
 
-abbrev pub told_of : {P : Type 0} → (P → State) → Cache P → ℕ → SetTold
-told_of state c set = set_told (tables_of c).dir (floor_above (state c.below).facts.floor) set
+abbrev pub told_of : {P : Type 0} {G : Ghosts P} → Cache P G → ℕ → SetTold
+told_of {P} {G} c set = set_told (tables_of c).dir (floor_above (G.state c.below).facts.floor) set
 
 -- Each set was asked about, none left out and in their order, and the valid ways of the whole directory were counted.
-pub record Walked {P : Type 0} (state : P → State) (c : Cache P) (sets : List ℕ) (w : Walk) : Type 0 where
-  pub told : vec_items w.sets ≡ map (told_of state c) sets
+pub record Walked {P : Type 0} {G : Ghosts P} (c : Cache P G) (sets : List ℕ) (w : Walk) : Type 0 where
+  pub told : vec_items w.sets ≡ map (told_of c) sets
   pub valid : w.valid ≡ valid_ways (tables_of c).dir

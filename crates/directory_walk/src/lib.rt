@@ -1,8 +1,7 @@
 //! A walk through the cache directory of a board: what stands in the ways of some sets.
 #![tactic(auto)]
 
-ghost use Rattle.std.specs.Prelude.{◌≡◌, IfOk};
-ghost use Rattle.cache.specs.Doing.{Sound};
+ghost use Rattle.std.specs.Prelude.{◌≡◌, IfOk, map};
 ghost use Rattle.directory_walk.specs.Walks.{told_of, Walked};
 
 use board::Board;
@@ -28,8 +27,7 @@ pub struct Walk {
 
 // Asks about each way of a set.
 fn ask_set<P: Port>(cache: &Cache<P>, set: u32) -> SetTold
-    requires { Sound P.state P.sound cache.now }
-    ensures { result ≡ told_of P.state cache.now set }
+    ensures { result ≡ told_of cache.now set }
 {
     SetTold {
         set,
@@ -42,22 +40,28 @@ fn ask_set<P: Port>(cache: &Cache<P>, set: u32) -> SetTold
     }
 }
 
+// Asks about each of some sets, in their order.
+fn ask_sets<P: Port>(
+    alloc: Global,
+    cache: &Cache<P>,
+    sets: &[u32],
+) -> Result<Vec<SetTold>, AllocError>
+    ensures { IfOk result (λ told. told.items ≡ map (told_of cache.now) sets.now) }
+{
+    sets.iter().map(|set| ask_set(cache, *set)).collect(alloc)
+}
+
 /// Asks about every way of some sets, through the board's view of its cache.
 pub fn walk_sets<P: Port>(
-    heap: Global,
+    alloc: Global,
     board: &Board<Cache<P>>,
     sets: &[u32],
 ) -> Result<Walk, AllocError>
-    requires { Sound P.state P.sound board.now.port }
-    ensures { IfOk result (λ walk. Walked P.state board.now.port sets.now walk) }
+    ensures { IfOk result (λ walk. Walked board.now.port sets.now walk) }
 {
     let cache = board.port();
-    let mut told = Vec::new(heap);
-    for set in sets {
-        told.push(ask_set(cache, *set))?;
-    }
     Ok(Walk {
-        sets: told,
+        sets: ask_sets(alloc, cache, sets)?,
         valid: cache.valid_ways(),
     })
 }

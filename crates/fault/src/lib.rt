@@ -3,6 +3,7 @@
 
 ghost use Rattle.std.specs.Prelude.{◌≡◌, Some, decimal};
 ghost use Rattle.fault.specs.Numbers.{number_of};
+ghost use Rattle.fault.specs.Texts.{fault_text};
 
 use std::fmt;
 
@@ -31,12 +32,12 @@ pub enum Refusal {
     ListWord,
 }
 
-impl Refusal {
-    /// The number by which this reason is printed and compared.
-    pub fn number(self) -> u8
-        ensures { result ≡ number_of self }
-    {
-        match self {
+/// The number by which a reason is printed and compared.
+impl From<Refusal> for u8 {
+    ghost from_gives = { λ refusal r. r ≡ number_of refusal };
+
+    fn from(refusal: Refusal) -> u8 {
+        match refusal {
             Refusal::PastEnd => 1,
             Refusal::BadLanes => 2,
             Refusal::Unreadable => 3,
@@ -54,7 +55,7 @@ impl fmt::Display for Refusal {
     ghost output = { λ refusal. Some (decimal (number_of refusal)) };
 
     fn fmt<W: fmt::Write>(&self, f: &mut fmt::Formatter<W>) -> fmt::Result {
-        let number = self.number();
+        let number = u8::from(*self);
         write!(f, "{number}")
     }
 }
@@ -63,8 +64,19 @@ impl fmt::Display for Refusal {
 #[derive(Clone, Copy, Debug, PartialEq)]
 pub struct Fault {
     pub refusal: Refusal,
-    /// A word, line or set number, the index of a list word, or 0.
+    /// A word, line or set number, the index of a list word, or 0: each refusal is printed with a place.
     pub place: u32,
     /// How many stages stand below the one that refused; 0 is a bank, a list or a size question.
     pub floor: u8,
+}
+
+impl fmt::Display for Fault {
+    ghost output = { λ fault. Some (fault_text fault) };
+
+    fn fmt<W: fmt::Write>(&self, f: &mut fmt::Formatter<W>) -> fmt::Result {
+        let refusal = self.refusal;
+        let place = self.place;
+        let floor = self.floor;
+        write!(f, "refused {refusal} at {place} floor {floor}")
+    }
 }

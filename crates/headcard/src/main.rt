@@ -11,9 +11,7 @@ const INPUT_BYTES: u64 = 16_385;
 
 // Prints each answer, and how many writes wait in the end.
 fn print_run(rt: &HostRuntime, run: &CardRun) -> io::Result<()> {
-    let mut number = 0u64;
-    for (call, answer) in run.calls.iter().zip(run.answers.iter()) {
-        number = number.saturating_add(1);
+    for (number, (call, answer)) in (1u64..).zip(run.calls.iter().zip(run.answers.iter())) {
         rt.println(Printed::Answered(number, *call, *answer))?;
     }
     rt.println(Printed::Waiting(run.waiting))

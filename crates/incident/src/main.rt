@@ -5,20 +5,8 @@ use banks::{Line, RamBank};
 use cache::Cache;
 use port::Port;
 use replay::{Row, replay};
-use std::alloc::{AllocError, Global};
 use std::io;
 use write_buffer::WriteBuffer;
-
-// Four lines of zeroed RAM, which may be cached, written and read.
-fn make_ram(heap: Global) -> Result<Vec<Line>, AllocError> {
-    let zero = Line {
-        words: [0; 8],
-        cacheable: true,
-        protect: false,
-        readable: [true; 8],
-    };
-    vec![in heap; zero; 4]
-}
 
 fn print_row(rt: &HostRuntime, moment: &str, row: Option<Row>) -> io::Result<()> {
     match row {
@@ -33,9 +21,7 @@ fn replay_on<P: Port + Drop>(
     title: &str,
     memory: P,
     clears: bool,
-) -> io::Result<()>
-    requires { P.sound memory }
-{
+) -> io::Result<()> {
     let told = replay(rt.alloc(), Cache::new(WriteBuffer::new(memory)), clears)?;
     println!(rt; "{title}")?;
     for (call, answer) in told.calls.iter().zip(told.answers.iter()) {
@@ -46,14 +32,14 @@ fn replay_on<P: Port + Drop>(
 }
 
 fn main(rt: HostRuntime) -> io::Result<()> {
-    let mut lines = make_ram(rt.alloc())?;
+    let mut lines = vec![in rt.alloc(); Line::ZEROED; 4]?;
     replay_on(
         &rt,
         "the display clears the hundreds between two words of a fill",
         RamBank::new(&mut lines),
         true,
     )?;
-    let mut lines = make_ram(rt.alloc())?;
+    let mut lines = vec![in rt.alloc(); Line::ZEROED; 4]?;
     replay_on(
         &rt,
         "the same calls without the clear",

@@ -2,28 +2,27 @@
 #![tactic(auto)]
 
 ghost use Rattle.std.specs.Prelude.{◌≡◌, ◌+◌, ◌/◌, ◌^◌, ◌<◌, IfErr};
-ghost use Rattle.port.specs.Memory.{drained};
-ghost use Rattle.port.specs.Steps.{Drains};
 ghost use Rattle.banks.specs.Sizes.{size_of_lines};
-ghost use Rattle.joined_map.specs.Joint.{joint_state, Still, MapDoes};
+ghost use Rattle.joined_map.specs.Joint.{Still};
 
-use banks::size_of_lines;
+use banks::joint_size;
 use fault::Fault;
-use port::{Port, check_range, check_write, settle_all};
+use port::{Port, Store, check_range, check_write, settle_all};
 
 /// Two ports as one: the words of the high one come after those of the low one.
 #[derive(Drop)]
-pub struct JoinedMap<L, H> {
+pub struct JoinedMap<L: Port, H: Port> {
     low: L,
     high: H,
+    // Nothing waits on either side.
+    pub ghost still: { Still (L.state low) (H.state high) },
 }
 
 /// How many words a map of these two ports has, or why it has none.
 pub fn map_size<L: Port, H: Port>(low: &L, high: &H) -> Result<u32, Fault>
-    requires { (L.sound low.now) × (H.sound high.now) }
     ensures { result ≡ size_of_lines (((L.state low.now).facts.words + (H.state high.now).facts.words) / 8) }
 {
-    size_of_lines((low.words() as usize + high.words() as usize) / 8)
+    joint_size(low.words(), high.words())
 }
 
 // What the high side answers, with a fault's place as the map counts it.
@@ -31,21 +30,18 @@ fn shifted<T>(by: u32, res: Result<T, Fault>) -> Result<T, Fault>
     requires { IfErr res (λ fault. fault.place + by < 2 ^ 32) }
     ensures { result ≡ Rattle.joined_map.specs.Joint.shifted by res }
 {
-    match res {
-        Ok(value) => Ok(value),
-        Err(fault) => Err(Fault {
-            refusal: fault.refusal,
-            place: fault.place + by,
-            floor: fault.floor,
-        }),
-    }
+    res.map_err(|fault| Fault {
+        place: fault.place + by,
+        ..fault
+    })
 }
 
 impl<L: Port, H: Port> JoinedMap<L, H> {
+    ghost use Rattle.port.specs.Memory.{drained};
+    ghost use Rattle.port.specs.Steps.{Drains};
+
     /// A map of two ports, once none of their writes waits; it has no words where its size is unfit.
     pub fn new(low: L, high: H) -> JoinedMap<L, H>
-        requires { (L.sound low) × (H.sound high) }
-        ensures sound { L.sound result.low × H.sound result.high × Still (L.state result.low) (H.state result.high) }
         ensures low { L.state result.low ≡ drained (L.state low) }
         ensures high { H.state result.high ≡ drained (H.state high) }
         ensures did { Drains L.state L.does low result.low × Drains H.state H.does high result.high }
@@ -66,18 +62,18 @@ impl<L: Port, H: Port> JoinedMap<L, H> {
     }
 }
 
+// A call with a word is one match of two arms. The six differ in the call that is made, so one function for all would take two closures on
+// `&mut` sides, and say what each of them did.
 impl<L: Port, H: Port> Port for JoinedMap<L, H> {
+    ghost use Rattle.joined_map.specs.Joint.{joint_state};
+    ghost use Rattle.joined_map.specs.Steps.{MapDoes};
+
     ghost state = { λ b. joint_state (L.state b.low) (H.state b.high) };
 
-    ghost sound = { λ b. L.sound b.low × H.sound b.high × Still (L.state b.low) (H.state b.high) };
-
-    ghost does = { λ b d c. MapDoes L.state L.does H.state H.does b d c };
+    ghost does = { λ b d c. MapDoes b d c };
 
     fn words(&self) -> u32 {
-        match map_size(&self.low, &self.high) {
-            Ok(words) => words,
-            Err(_) => 0,
-        }
+        map_size(&self.low, &self.high).unwrap_or(0)
     }
 
     fn floor(&self) -> u8 {
@@ -87,10 +83,10 @@ impl<L: Port, H: Port> Port for JoinedMap<L, H> {
     fn marks(&self, line: u32) -> Result<(bool, bool), Fault> {
         check_range(line, self.words() / 8, self.floor())?;
         let split = self.low.words() / 8;
-        if line < split {
-            return self.low.marks(line);
+        match line.checked_sub(split) {
+            None => self.low.marks(line),
+            Some(line) => shifted(split, self.high.marks(line)),
         }
-        shifted(split, self.high.marks(line - split))
     }
 
     fn waiting(&self) -> u32 {
@@ -100,20 +96,18 @@ impl<L: Port, H: Port> Port for JoinedMap<L, H> {
     fn read(&mut self, word: u32) -> Result<u16, Fault> {
         check_range(word, self.words(), self.floor())?;
         let split = self.low.words();
-        if word < split {
-            return self.low.read(word);
+        match word.checked_sub(split) {
+            None => self.low.read(word),
+            Some(word) => shifted(split, self.high.read(word)),
         }
-        let value = shifted(split, self.high.read(word - split))?;
-        Ok(value)
     }
 
-    fn write(&mut self, word: u32, lanes: u8, value: u16) -> Result<(), Fault> {
-        check_write(word, lanes, self.words(), self.floor())?;
+    fn write(&mut self, write: Store) -> Result<(), Fault> {
+        check_write(write, self.words(), self.floor())?;
         let split = self.low.words();
-        if word < split {
-            self.low.write(word, lanes, value)?;
-        } else {
-            shifted(split, self.high.write(word - split, lanes, value))?;
+        match write.word.checked_sub(split) {
+            None => self.low.write(write)?,
+            Some(word) => shifted(split, self.high.write(Store { word, ..write }))?,
         }
         settle_all(&mut self.low);
         settle_all(&mut self.high);
@@ -128,29 +122,28 @@ impl<L: Port, H: Port> Port for JoinedMap<L, H> {
     fn settled_read(&self, word: u32) -> Result<u16, Fault> {
         check_range(word, self.words(), self.floor())?;
         let split = self.low.words();
-        if word < split {
-            return self.low.settled_read(word);
+        match word.checked_sub(split) {
+            None => self.low.settled_read(word),
+            Some(word) => shifted(split, self.high.settled_read(word)),
         }
-        let value = shifted(split, self.high.settled_read(word - split))?;
-        Ok(value)
     }
 
-    fn outside_write(&mut self, word: u32, lanes: u8, value: u16) -> Result<(), Fault> {
-        check_write(word, lanes, self.words(), self.floor())?;
+    fn outside_write(&mut self, write: Store) -> Result<(), Fault> {
+        check_write(write, self.words(), self.floor())?;
         let split = self.low.words();
-        if word < split {
-            return self.low.outside_write(word, lanes, value);
+        match write.word.checked_sub(split) {
+            None => self.low.outside_write(write),
+            Some(word) => shifted(split, self.high.outside_write(Store { word, ..write })),
         }
-        shifted(split, self.high.outside_write(word - split, lanes, value))
     }
 
     fn snoop(&mut self, word: u32) -> Result<(), Fault> {
         check_range(word, self.words(), self.floor())?;
         let split = self.low.words();
-        if word < split {
-            return self.low.snoop(word);
+        match word.checked_sub(split) {
+            None => self.low.snoop(word),
+            Some(word) => shifted(split, self.high.snoop(word)),
         }
-        shifted(split, self.high.snoop(word - split))
     }
 
     fn flush(&mut self) {

@@ -1,7 +1,7 @@
 //! Tries call lists of every kind, length and fault, and prints what each is read as.
 #![tactic(auto)]
 
-use calls::{ListError, Reader, read_list};
+use calls::{Reader, Stop, read_list};
 use std::alloc::AllocError;
 use std::io;
 
@@ -209,13 +209,8 @@ fn print_list(rt: &HostRuntime, name: &str, bytes: &[u8]) -> io::Result<()> {
                 println!(rt; "{name}: {calls:?}")
             }
         }
-        Err(ListError::Refused(fault)) => {
-            let refusal = fault.refusal;
-            let place = fault.place;
-            let floor = fault.floor;
-            println!(rt; "{name}: refused {refusal} at {place} floor {floor}")
-        }
-        Err(ListError::Memory) => Err(AllocError.into()),
+        Err(Stop::Refused(fault)) => println!(rt; "{name}: {fault}"),
+        Err(Stop::Memory) => Err(AllocError.into()),
     }
 }
 
@@ -226,6 +221,7 @@ fn print_reader(rt: &HostRuntime, bytes: &[u8], answers: u8) -> io::Result<()> {
         match reader.next_call() {
             Ok(Some(call)) => println!(rt; "reader: {call:?}")?,
             Ok(None) => println!(rt; "reader: the end")?,
+            // By parts, since a list has no floor to tell.
             Err(fault) => {
                 let refusal = fault.refusal;
                 let place = fault.place;

@@ -4,20 +4,17 @@
 use banks::{Line, RamBank};
 use board::compare;
 use cache::Cache;
-use calls::{Call, Store};
-use port::Port;
+use calls::Call;
+use port::{Port, Store};
 use std::alloc::{AllocError, Global};
 use std::io;
 use write_buffer::WriteBuffer;
-
-fn store(word: u32, lanes: u8, value: u16) -> Store {
-    Store { word, lanes, value }
-}
 
 // A line whose words hold 100 and their own number, so that an answer tells which word it came from.
 fn make_line(number: u8, cacheable: bool, protect: bool) -> Line {
     let word = 100 + 8 * u16::from(number);
     Line {
+        // Written out: a `map` over the places was tried, and its closure's sum gets no proof that it fits.
         words: [
             word,
             word + 1,
@@ -35,10 +32,10 @@ fn make_line(number: u8, cacheable: bool, protect: bool) -> Line {
 }
 
 // A plain line, an uncacheable one, a protected one, and one whose word 29 is unreadable.
-fn make_ram(heap: Global) -> Result<Vec<Line>, AllocError> {
+fn make_ram(alloc: Global) -> Result<Vec<Line>, AllocError> {
     let mut unreadable = make_line(3, true, false);
     unreadable.readable[5] = false;
-    let lines = vec![in heap;
+    let lines = vec![in alloc;
         make_line(0, true, false),
         make_line(1, false, false),
         make_line(2, true, true),
@@ -49,8 +46,8 @@ fn make_ram(heap: Global) -> Result<Vec<Line>, AllocError> {
 
 // A read begins a fill and an advance fetches one word more; then come the calls between, and reads of the two words
 // that were fetched and of two that were not.
-fn make_calls(heap: Global, word: u32, between: &[Call]) -> Result<Vec<Call>, AllocError> {
-    let mut calls = Vec::new(heap);
+fn make_calls(alloc: Global, word: u32, between: &[Call]) -> Result<Vec<Call>, AllocError> {
+    let mut calls = Vec::new(alloc);
     calls.extend_from_slice(&[Call::Read(word), Call::Advance])?;
     calls.extend_from_slice(between)?;
     calls.extend_from_slice(&[
@@ -68,13 +65,8 @@ fn try_pair<P: Port + Drop, Q: Port + Drop>(
     one: P,
     other: Q,
     calls: &[Call],
-) -> io::Result<()>
-    requires one { P.sound one }
-    requires other { Q.sound other }
-{
-    let Ok((first, second)) = compare(rt.alloc(), one, other, calls) else {
-        return Err(AllocError.into());
-    };
+) -> io::Result<()> {
+    let (first, second) = compare(rt.alloc(), one, other, calls)?;
     for ((call, one), other) in calls
         .iter()
         .zip(first.answers.iter())
@@ -90,10 +82,7 @@ fn try_orders<P: Port + Drop, Q: Port + Drop>(
     one: P,
     other: Q,
     calls: &[Call],
-) -> io::Result<()>
-    requires one { P.sound one }
-    requires other { Q.sound other }
-{
+) -> io::Result<()> {
     println!(rt; "  a cache over a buffer, and a buffer over a cache:")?;
     try_pair(
         rt,
@@ -108,10 +97,7 @@ fn try_bare<P: Port + Drop, Q: Port + Drop>(
     one: P,
     other: Q,
     calls: &[Call],
-) -> io::Result<()>
-    requires one { P.sound one }
-    requires other { Q.sound other }
-{
+) -> io::Result<()> {
     println!(rt; "  a cache over a cache, and no stage:")?;
     try_pair(rt, Cache::new(Cache::new(one)), other, calls)
 }
@@ -130,17 +116,25 @@ fn try_case(rt: &HostRuntime, title: &str, word: u32, between: &[Call]) -> io::R
 
 fn main(rt: HostRuntime) -> io::Result<()> {
     let writes = [
-        Call::Write(store(3, 1, 0x0307)),
-        Call::Write(store(5, 3, 900)),
+        Call::Write(Store::new(3, 1, 0x0307)),
+        Call::Write(Store::new(5, 3, 900)),
     ];
     try_case(&rt, "writes to the line under fill", 2, &writes)?;
     try_case(&rt, "a snoop of it", 2, &[Call::Snoop(4)])?;
     try_case(&rt, "a flush", 2, &[Call::Flush])?;
     // Two boards may answer differently where the display writes while writes wait. Here none waits, so the book
     // leaves no choice.
-    let display = [Call::Ask, Call::MasterWrite(store(2, 3, 15)), Call::Give];
+    let display = [
+        Call::Ask,
+        Call::MasterWrite(Store::new(2, 3, 15)),
+        Call::Give,
+    ];
     try_case(&rt, "a write by the display", 2, &display)?;
-    let uncacheable = [Call::Read(9), Call::Write(store(9, 3, 900)), Call::Read(9)];
+    let uncacheable = [
+        Call::Read(9),
+        Call::Write(Store::new(9, 3, 900)),
+        Call::Read(9),
+    ];
     try_case(
         &rt,
         "reads and a write of an uncacheable line",
@@ -148,11 +142,11 @@ fn main(rt: HostRuntime) -> io::Result<()> {
         &uncacheable,
     )?;
     let protected = [
-        Call::Write(store(18, 3, 900)),
-        Call::Write(store(16, 3, 900)),
+        Call::Write(Store::new(18, 3, 900)),
+        Call::Write(Store::new(16, 3, 900)),
     ];
     try_case(&rt, "writes to a protected line under fill", 18, &protected)?;
-    let unreadable = [Call::Write(store(27, 3, 900)), Call::Read(29)];
+    let unreadable = [Call::Write(Store::new(27, 3, 900)), Call::Read(29)];
     try_case(
         &rt,
         "an unreadable word in the line under fill",

@@ -1,13 +1,12 @@
 -- How settling composes.
-use Rattle.std.proofs.Common.{◌≡◌, ℕ, ◌<◌, ◌≤◌, Bool, true, false, cond, List, [], ◌∷◌, ◌++◌, length, Ok, Err, Result, sym, refl, ap, ◌∙◌, subst, append_assoc, append-nil, arith, length-append}
-use Rattle.std.proofs.lemmas.Bool.Decides.{nat_tests}
+use Rattle.std.proofs.Common.{◌≡◌, ℕ, ◌≤◌, Bool, true, false, cond, List, [], ◌∷◌, ◌++◌, length, Ok, Err, Result, sym, refl, ap, ◌∙◌, subst, append_assoc, append-nil, arith, length-append}
 use Rattle.fault.specs.declared.Fault.{Fault}
-use Rattle.port.specs.declared.Write.{Write}
-use Rattle.port.specs.Memory.{Memory, Facts, State, stored, applied, seen, posted, settling, drained, outside, raised}
-use Rattle.port.specs.Meaning.{Settles, ByAnswer, Kept, unreadable, within, then_ok, told}
+use Rattle.port.specs.declared.Store.{Store}
+use Rattle.port.specs.Memory.{Memory, State, stored, applied, seen, posted, settling, drained, outside, raised}
+use Rattle.port.specs.Meaning.{Settles, ByAnswer, Kept, unreadable}
 use Rattle.port.specs.Laws.{SettlingIsLawful}
 
-pub applied-append : (p : ℕ → Bool) (xs ys : List Write) (m : Memory) → applied p (xs ++ ys) m ≡ applied p ys (applied p xs m)
+pub applied-append : (p : ℕ → Bool) (xs ys : List Store) (m : Memory) → applied p (xs ++ ys) m ≡ applied p ys (applied p xs m)
 applied-append p [] ys m = refl
 applied-append p (x ∷ xs) ys m = applied-append p xs ys (stored p x m)
 
@@ -29,7 +28,7 @@ pub seen_kept : (s t : State) → Settles s t → seen t ≡ seen s
 seen_kept s t a =
     ap seen a.after ∙ sym (applied-append s.protected a.gone a.rest s.settled) ∙ ap (λ l. applied s.protected l s.settled) (sym a.line)
 
-pub settles_under : (s t : State) (ws : List Write) → Settles s t → Settles (posted ws s) (posted ws t)
+pub settles_under : (s t : State) (ws : List Store) → Settles s t → Settles (posted ws s) (posted ws t)
 settles_under s t ws a =
     record { gone = a.gone; rest = a.rest ++ ws; line = ap (λ l. l ++ ws) a.line ∙ append_assoc a.gone a.rest ws; after = ap (posted ws) a.after }
 
@@ -38,7 +37,7 @@ pub settles_raised : (s t : State) → Settles s t → Settles (raised s) (raise
 settles_raised s t a = record { gone = a.gone; rest = a.rest; line = a.line; after = ap raised a.after }
 
 pub posted_none : (s : State) → posted [] s ≡ s
-posted_none s = ap (λ (l : List Write). record { facts = s.facts; protected = s.protected; settled = s.settled; waiting = l }) (append-nil s.waiting)
+posted_none s = ap (λ (l : List Store). record { facts = s.facts; protected = s.protected; settled = s.settled; waiting = l }) (append-nil s.waiting)
 
 pub settles_length : (s t : State) → Settles s t → length t.waiting ≤ length s.waiting
 settles_length s t a =
@@ -59,7 +58,7 @@ none_waits [] e = refl
 none_waits (x ∷ l) e = absurd (omega arith)
 
 -- where nothing waits, a write that is stored at once has joined and settled
-pub stored_at_once : (s t : State) (w : Write) → s.waiting ≡ [] → t ≡ outside w s → Settles (posted (w ∷ []) s) t
+pub stored_at_once : (s t : State) (w : Store) → s.waiting ≡ [] → t ≡ outside w s → Settles (posted (w ∷ []) s) t
 stored_at_once s t w none e =
     let line : s.waiting ++ (w ∷ []) ≡ w ∷ [] = ap (λ l. l ++ (w ∷ [])) none in
     record {
@@ -69,7 +68,7 @@ stored_at_once s t w none e =
       after = e ∙ ap (λ l. record { facts = s.facts; protected = s.protected; settled = stored s.protected w s.settled; waiting = l }) none;
     }
 
-pub accepted_at_once : (Q : Type 0) (r : Result (Unit {0}) Fault) (s t : State) (w : Write) → s.waiting ≡ [] →
+pub accepted_at_once : (Q : Type 0) (r : Result (Unit {0}) Fault) (s t : State) (w : Store) → s.waiting ≡ [] →
     ByAnswer r (t ≡ outside w s) Q → ByAnswer r (Settles (posted (w ∷ []) s) t) Q
 accepted_at_once Q (Ok _) s t w none e = stored_at_once s t w none e
 accepted_at_once Q (Err _) s t w none q = q
@@ -96,7 +95,7 @@ settles_drained s t a =
     ap (λ m. record { facts = s.facts; protected = s.protected; settled = m; waiting = [] }) (seen_kept s t a)
 
 -- a write to a port on which nothing waits, after which all settles
-pub written_drained : (s t u : State) (w : Write) → s.waiting ≡ [] → Settles (posted (w ∷ []) s) t → u ≡ drained t → u ≡ outside w s
+pub written_drained : (s t u : State) (w : Store) → s.waiting ≡ [] → Settles (posted (w ∷ []) s) t → u ≡ drained t → u ≡ outside w s
 written_drained s t u w none a e =
     e ∙ settles_drained (posted (w ∷ []) s) t a ∙
     ap (λ l. record { facts = s.facts; protected = s.protected; settled = applied s.protected (l ++ (w ∷ [])) s.settled; waiting = [] }) none ∙
@@ -106,8 +105,3 @@ written_drained s t u w none a e =
 pub readable_kept : {P : Type 0} (p q : P) (b : Bool) (v w : ℕ) (r : Result ℕ Fault) → r ≡ cond b (Ok v) (Err (unreadable w)) → Kept r p q
 readable_kept p q true v w r e = subst (λ x. Kept x p q) (sym e) tt
 readable_kept p q false v w r e = subst (λ x. Kept x p q) (sym e) tt
-
-pub kept_within : {P : Type 0} (p q : P) (f : Facts) (m : Memory) (w : ℕ) (r : Result ℕ Fault) → w < f.words → r ≡ told f m w → Kept r p q
-kept_within p q f m w r h e =
-    let there : within w f.words f.floor ≡ Ok tt = grind (arith, nat_tests) in
-    readable_kept p q (m.readable w) (m.word w) w r (e ∙ ap (λ x. then_ok x (cond (m.readable w) (Ok (m.word w)) (Err (unreadable w)))) there)

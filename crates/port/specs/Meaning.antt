@@ -3,7 +3,7 @@ use Rattle.std.specs.Prelude.{◌≡◌, ℕ, ◌/◌, ◌<◌, min, Bool, cond,
 use Rattle.fault.specs.declared.Fault.{Fault}
 use Rattle.fault.specs.declared.Refusal.{Refusal}
 use Rattle.fault.specs.declared.Refusal.TheVariants.{PastEnd, BadLanes, Unreadable, Locked, Granted, NotLocked, NotGranted, UnfitSize, ListLength, ListWord}
-use Rattle.port.specs.declared.Write.{Write}
+use Rattle.port.specs.declared.Store.{Store}
 use Rattle.port.specs.Memory.{Memory, Facts, State, seen, settling}
 
 -- Refusals: past the end and lanes bear the floor of the port that was called, an unreadable word bears floor 0.
@@ -42,7 +42,7 @@ read_answer s w = told s.facts (seen s) w
 abbrev pub settled_answer : State → ℕ → Result ℕ Fault
 settled_answer s w = told s.facts s.settled w
 
-abbrev pub write_answer : State → Write → Result (Unit {0}) Fault
+abbrev pub write_answer : State → Store → Result (Unit {0}) Fault
 write_answer s w = writable w.word w.lanes s.facts.words s.facts.floor
 
 abbrev pub snoop_answer : State → ℕ → Result (Unit {0}) Fault
@@ -56,13 +56,10 @@ marks_answer s line =
 abbrev pub waiting_answer : State → ℕ
 waiting_answer s = min (length s.waiting) 4294967295
 
-abbrev pub writing : ℕ → ℕ → ℕ → Write
-writing word lanes value = record { word = word; lanes = lanes; value = value }
-
 -- Some settle: any number of the oldest waiting writes, possibly none, leave the line and settle in order.
 pub record Settles (s t : State) : Type 0 where
-  pub gone : List Write
-  pub rest : List Write
+  pub gone : List Store
+  pub rest : List Store
   pub line : s.waiting ≡ gone ++ rest
   pub after : t ≡ settling gone rest s
 

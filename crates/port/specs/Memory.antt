@@ -1,6 +1,6 @@
 -- What a port holds: a settled memory, and a line of waiting writes.
 use Rattle.std.specs.Prelude.{ℕ, ◌+◌, ◌/◌, min, Bool, cond, List, [], ◌∷◌, ◌++◌, ◌==◌}
-use Rattle.port.specs.declared.Write.{Write}
+use Rattle.port.specs.declared.Store.{Store}
 use Rattle.port.specs.Lanes.{joined}
 
 -- The contents of memory by word number, and which words can be read.
@@ -19,7 +19,7 @@ pub record State : Type 0 where
   pub facts : Facts
   pub protected : ℕ → Bool
   pub settled : Memory
-  pub waiting : List Write
+  pub waiting : List Store
 
 -- A stage stands one floor higher than what it stands on; floors are counted up to 255.
 abbrev pub floor_above : ℕ → ℕ
@@ -29,14 +29,14 @@ abbrev pub line_of : ℕ → ℕ
 line_of word = word / 8
 
 -- Memory once a write has settled in it: the write's lanes of its word are replaced, in a protected line nothing is.
-abbrev pub stored : (ℕ → Bool) → Write → Memory → Memory
+abbrev pub stored : (ℕ → Bool) → Store → Memory → Memory
 stored protected w m = record {
   word = λ a. cond (a == w.word) (cond (protected (line_of a)) (m.word a) (joined w.lanes (m.word a) w.value)) (m.word a);
   readable = m.readable;
 }
 
 -- The same for several writes, one after another.
-abbrev pub applied : (ℕ → Bool) → List Write → Memory → Memory
+abbrev pub applied : (ℕ → Bool) → List Store → Memory → Memory
 applied protected [] m = m
 applied protected (w ∷ ws) m = applied protected ws (stored protected w m)
 
@@ -45,11 +45,11 @@ abbrev pub seen : State → Memory
 seen s = applied s.protected s.waiting s.settled
 
 -- The state with more writes at the end of the line.
-abbrev pub posted : List Write → State → State
+abbrev pub posted : List Store → State → State
 posted ws s = record { facts = s.facts; protected = s.protected; settled = s.settled; waiting = s.waiting ++ ws }
 
 -- The state once the writes gone have settled, where those in rest still wait.
-abbrev pub settling : List Write → List Write → State → State
+abbrev pub settling : List Store → List Store → State → State
 settling gone rest s =
     record { facts = s.facts; protected = s.protected; settled = applied s.protected gone s.settled; waiting = rest }
 
@@ -58,7 +58,7 @@ abbrev pub drained : State → State
 drained s = record { facts = s.facts; protected = s.protected; settled = seen s; waiting = [] }
 
 -- The state after a write from outside, which goes past the waiting line.
-abbrev pub outside : Write → State → State
+abbrev pub outside : Store → State → State
 outside w s = record { facts = s.facts; protected = s.protected; settled = stored s.protected w s.settled; waiting = s.waiting }
 
 -- The state as a stage shows it, one floor higher.

@@ -1,15 +1,15 @@
 -- Calls with their answers, and what several of them do one after another.
 use Rattle.std.specs.Prelude.{◌≡◌, ℕ, ◌<◌, List, [], ◌∷◌, length, Result}
 use Rattle.fault.specs.declared.Fault.{Fault}
-use Rattle.port.specs.declared.Write.{Write}
+use Rattle.port.specs.declared.Store.{Store}
 use Rattle.port.specs.Memory.{State}
 
 -- A call that may change a port, with its arguments and its answer. A settled read and the questions change nothing.
 pub data Step : Type 0 where
   reads : ℕ → Result ℕ Fault → Step
-  writes : Write → Result (Unit {0}) Fault → Step
+  writes : Store → Result (Unit {0}) Fault → Step
   advances : Step
-  outsides : Write → Result (Unit {0}) Fault → Step
+  outsides : Store → Result (Unit {0}) Fault → Step
   snoops : ℕ → Result (Unit {0}) Fault → Step
   flushes : Step
 

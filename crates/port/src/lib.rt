@@ -4,7 +4,7 @@
 ghost use Rattle.std.specs.Prelude.{◌≡◌, ℕ, ◌%◌, ◌≤◌, [], ◌∷◌};
 ghost use Rattle.port.specs.Lanes.{joined};
 ghost use Rattle.port.specs.Memory.{State, seen, posted, drained, outside};
-ghost use Rattle.port.specs.Meaning.{within, writable, read_answer, settled_answer, write_answer, snoop_answer, marks_answer, waiting_answer, writing, Settles, Advances, ByAnswer, Kept};
+ghost use Rattle.port.specs.Meaning.{within, writable, read_answer, settled_answer, write_answer, snoop_answer, marks_answer, waiting_answer, Settles, Advances, ByAnswer, Kept};
 ghost use Rattle.port.specs.Steps.{Step, reads, writes, advances, outsides, snoops, flushes, Drains};
 ghost use Rattle.port.specs.Laws.{SettlingIsLawful};
 
@@ -12,26 +12,36 @@ use fault::{Fault, Refusal};
 
 /// A write: its value replaces some lanes of a word.
 #[derive(Clone, Copy, Debug, PartialEq)]
-pub struct Write {
+pub struct Store {
     pub word: u32,
-    /// 1 is the low byte, 2 the high byte, 3 both.
+    /// 1 is the low byte, 2 the high byte, 3 both. A number and no enum, since a write by other lanes is answered: by a refusal.
     pub lanes: u8,
     pub value: u16,
 }
 
-/// The old word with the lanes of the new one.
-pub fn join_lanes(lanes: u8, old: u16, new: u16) -> u16
-    ensures { result ≡ joined lanes old new }
-{
-    match lanes {
-        1 => old / 256 * 256 + new % 256,
-        2 => new / 256 * 256 + old % 256,
-        3 => new,
-        _ => old,
+impl Store {
+    /// A write of the value to the lanes of a word.
+    pub fn new(word: u32, lanes: u8, value: u16) -> Store
+        ensures { result ≡ record { word = word; lanes = lanes; value = value } }
+    {
+        Store { word, lanes, value }
+    }
+
+    /// The old word once the lanes of this write are replaced in it.
+    pub fn over(self, old: u16) -> u16
+        ensures { result ≡ joined self.lanes old self.value }
+    {
+        let new = self.value;
+        match self.lanes {
+            1 => old / 256 * 256 + new % 256,
+            2 => new / 256 * 256 + old % 256,
+            3 => new,
+            _ => old,
+        }
     }
 }
 
-/// Refuses a word or a line past the end.
+/// Refuses a word or a line past the end. End and floor are two numbers, and no struct: each port has both at hand as answers of its own.
 pub fn check_range(place: u32, end: u32, floor: u8) -> Result<(), Fault>
     ensures { result ≡ within place end floor }
 {
@@ -47,16 +57,16 @@ pub fn check_range(place: u32, end: u32, floor: u8) -> Result<(), Fault>
 }
 
 /// Refuses a write past the end, and then one of no known lanes.
-pub fn check_write(word: u32, lanes: u8, end: u32, floor: u8) -> Result<(), Fault>
-    ensures { result ≡ writable word lanes end floor }
+pub fn check_write(write: Store, end: u32, floor: u8) -> Result<(), Fault>
+    ensures { result ≡ writable write.word write.lanes end floor }
 {
-    check_range(word, end, floor)?;
-    if 1 <= lanes && lanes <= 3 {
+    check_range(write.word, end, floor)?;
+    if 1 <= write.lanes && write.lanes <= 3 {
         Ok(())
     } else {
         Err(Fault {
             refusal: Refusal::BadLanes,
-            place: word,
+            place: write.word,
             floor,
         })
     }
@@ -64,94 +74,72 @@ pub fn check_write(word: u32, lanes: u8, end: u32, floor: u8) -> Result<(), Faul
 
 /// A memory port. Banks, maps, buffers and caches are ports, and a board stands on any of them.
 pub trait Port {
-    // What the port means.
+    // What the port means. Whatever a port keeps true of itself, so that this holds, is in its type: no call asks for it.
     ghost state: { Self → State };
-
-    // What making the port establishes and every call keeps.
-    ghost sound: { Self → Type 0 };
 
     // What a call does to the whole of the port: to its own parts exactly, and by which calls to the ports below it.
     ghost does: { Self → Step → Self → Type 0 };
 
     /// How many words there are.
     fn words(&self) -> u32
-        requires { sound self.now }
         ensures value { result ≡ (state self.now).facts.words }
         ensures lines { result % 8 ≡ 0 }
         ensures most { result ≤ 8388608 };
 
     /// How many stages stand below, up to 255.
     fn floor(&self) -> u8
-        requires { sound self.now }
         ensures { result ≡ (state self.now).facts.floor };
 
-    /// Whether a line may be cached, and whether it is protected.
+    /// Whether a line may be cached, and whether it is protected. One question with a pair for its answer, as the users asked for.
     fn marks(&self, line: u32) -> Result<(bool, bool), Fault>
-        requires { sound self.now }
         ensures { result ≡ marks_answer (state self.now) line };
 
     /// How many writes wait, as far as a `u32` counts.
     fn waiting(&self) -> u32
-        requires { sound self.now }
         ensures { result ≡ waiting_answer (state self.now) };
 
     /// The word as the processor sees it; some waiting writes may settle.
     fn read(&mut self, word: u32) -> Result<u16, Fault>
-        requires { sound self.old }
-        ensures sound { sound self.new }
         ensures value { result ≡ read_answer (state self.old) word }
         ensures after { Settles (state self.old) (state self.new) }
         ensures kept { Kept result self.old self.new }
         ensures did { does self.old (reads word result) self.new };
 
     /// A processor write: it joins the line, and then some may settle.
-    fn write(&mut self, word: u32, lanes: u8, value: u16) -> Result<(), Fault>
-        requires { sound self.old }
-        ensures sound { sound self.new }
-        ensures value { result ≡ write_answer (state self.old) (writing word lanes value) }
-        ensures after { ByAnswer result (Settles (posted (writing word lanes value ∷ []) (state self.old)) (state self.new)) (self.new ≡ self.old) }
-        ensures did { does self.old (writes (writing word lanes value) result) self.new };
+    fn write(&mut self, write: Store) -> Result<(), Fault>
+        ensures value { result ≡ write_answer (state self.old) write }
+        ensures after { ByAnswer result (Settles (posted (write ∷ []) (state self.old)) (state self.new)) (self.new ≡ self.old) }
+        ensures did { does self.old (writes write result) self.new };
 
     /// Some waiting writes settle, at least one if any waits.
     fn advance(&mut self)
-        requires { sound self.old }
-        ensures sound { sound self.new }
         ensures after { Advances (state self.old) (state self.new) }
         ensures did { does self.old advances self.new };
 
     /// The word of settled memory.
     fn settled_read(&self, word: u32) -> Result<u16, Fault>
-        requires { sound self.now }
         ensures { result ≡ settled_answer (state self.now) word };
 
     /// A write by another master: settled memory changes at once, and the waiting line does not.
-    fn outside_write(&mut self, word: u32, lanes: u8, value: u16) -> Result<(), Fault>
-        requires { sound self.old }
-        ensures sound { sound self.new }
-        ensures value { result ≡ write_answer (state self.old) (writing word lanes value) }
-        ensures after { ByAnswer result (state self.new ≡ outside (writing word lanes value) (state self.old)) (self.new ≡ self.old) }
-        ensures did { does self.old (outsides (writing word lanes value) result) self.new };
+    fn outside_write(&mut self, write: Store) -> Result<(), Fault>
+        ensures value { result ≡ write_answer (state self.old) write }
+        ensures after { ByAnswer result (state self.new ≡ outside write (state self.old)) (self.new ≡ self.old) }
+        ensures did { does self.old (outsides write result) self.new };
 
     /// Tells the stages that another master has written a word.
     fn snoop(&mut self, word: u32) -> Result<(), Fault>
-        requires { sound self.old }
-        ensures sound { sound self.new }
         ensures value { result ≡ snoop_answer (state self.old) word }
         ensures after { ByAnswer result (state self.new ≡ state self.old) (self.new ≡ self.old) }
         ensures did { does self.old (snoops word result) self.new };
 
     /// Tells the stages to forget what they have cached.
     fn flush(&mut self)
-        requires { sound self.old }
-        ensures sound { sound self.new }
         ensures after { state self.new ≡ state self.old }
         ensures did { does self.old flushes self.new };
 }
 
 /// Advances a port until none of its writes waits.
 pub fn settle_all<P: Port>(port: &mut P)
-    requires { P.sound port.old }
-    ensures sound { P.sound port.new }
     ensures after { P.state port.new ≡ drained (P.state port.old) }
     ensures did { Drains P.state P.does port.old port.new }
     ensures law { SettlingIsLawful }

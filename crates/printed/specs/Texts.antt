@@ -5,6 +5,7 @@ use Rattle.fault.specs.declared.Fault.{Fault}
 use Rattle.fault.specs.declared.Refusal.{Refusal}
 use Rattle.fault.specs.declared.Refusal.TheVariants.{PastEnd, BadLanes, Unreadable, Locked, Granted, NotLocked, NotGranted, UnfitSize, ListLength, ListWord}
 use Rattle.fault.specs.Numbers.{number_of}
+use Rattle.fault.specs.Texts.{fault_text}
 use Rattle.calls.specs.Calls.{name_of}
 use Rattle.book.specs.declared.answer.Answer.{Answer}
 use Rattle.book.specs.declared.answer.Answer.TheVariants.{Done, Word}
@@ -22,8 +23,7 @@ hex_word v = hex_digit (v / 4096) ++ (hex_digit (v / 256 % 16) ++ (hex_digit (v 
 abbrev pub outcome_text : Result Answer Fault → List ℕ
 outcome_text (Ok Done) = codes "ok"
 outcome_text (Ok (Word v)) = hex_word v
-outcome_text (Err fault) =
-    codes "refused " ++ (decimal (number_of fault.refusal) ++ (codes " at " ++ (decimal fault.place ++ (codes " floor " ++ decimal fault.floor))))
+outcome_text (Err fault) = fault_text fault
 
 -- What was refused as a whole: the card for its size, else the list.
 abbrev pub whole_of : Refusal → List ℕ

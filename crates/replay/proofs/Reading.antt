@@ -5,7 +5,6 @@ use Rattle.fault.specs.declared.Fault.{Fault}
 use Rattle.calls.specs.declared.call.Call.{Call}
 use Rattle.calls.specs.declared.call.Call.TheVariants.{Give}
 use Rattle.port.specs.Memory.{Memory, State, seen, stored}
-use Rattle.port.specs.Meaning.{writing}
 use Rattle.book.specs.declared.answer.Mode.TheVariants.{Free, Granted}
 use Rattle.book.specs.declared.answer.Answer.{Answer}
 use Rattle.book.specs.declared.answer.Answer.TheVariants.{Done, Word}
@@ -13,7 +12,7 @@ use Rattle.book.specs.Book.{first}
 use Rattle.book.specs.Runs.{answers, Admitted}
 use Rattle.replay.specs.declared.row.Row.{Row}
 use Rattle.replay.specs.Rows.{blank, row, row_at}
-use Rattle.replay.specs.Incident.{hundreds, tens, ones, reads_row, clearing, incident_calls, last_reading, RowStands, AnsweredByTheBook, RowsAreTheAnswers, ReadsTheNewestRow}
+use Rattle.replay.specs.Incident.{hundreds, tens, ones, reads_row, clearing, incident_calls, digit, last_reading, RowStands, AnsweredByTheBook, RowsAreTheAnswers, ReadsTheNewestRow}
 use Rattle.replay.proofs.Forcing.{still, AllForced, over, then, forced_answers, unposted, reads, flushes, advances, asks, clears, gives}
 
 -- Memory in which the row's words are a, b and c.
@@ -23,10 +22,10 @@ record Holds (mem : Memory) (a b c : ℕ) : Type 0 where
   o : mem.word ones ≡ c
 
 abbrev stores195 : State → Memory
-stores195 s = stored s.protected (writing ones 3 5) (stored s.protected (writing tens 3 9) (stored s.protected (writing hundreds 3 1) (seen s)))
+stores195 s = stored s.protected (digit ones 5) (stored s.protected (digit tens 9) (stored s.protected (digit hundreds 1) (seen s)))
 
 abbrev clears_it : State → Memory
-clears_it s = stored s.protected (writing hundreds 3 blank) (stores195 s)
+clears_it s = stored s.protected (digit hundreds blank) (stores195 s)
 
 holds195 : (s : State) → RowStands s → Holds (stores195 s) 1 9 5
 holds195 s stands = record { h = rw stands.unprotected; t = rw stands.unprotected; o = rw stands.unprotected }

@@ -3,7 +3,7 @@ use Rattle.std.specs.Prelude.{◌≡◌, ℕ, ◌<◌, Bool, true, false, cond, 
 use Rattle.fault.specs.declared.Fault.{Fault}
 use Rattle.calls.specs.declared.call.Call.{Call}
 use Rattle.calls.specs.declared.call.Call.TheVariants.{Read, Unposted, Advance, Ask, MasterWrite, Give, Flush}
-use Rattle.calls.specs.declared.call.Store.{Store}
+use Rattle.port.specs.declared.Store.{Store}
 use Rattle.port.specs.Memory.{State, seen, line_of}
 use Rattle.book.specs.declared.answer.Answer.{Answer}
 use Rattle.book.specs.Book.{first}

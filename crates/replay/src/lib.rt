@@ -7,9 +7,9 @@ ghost use Rattle.replay.specs.Incident.{incident_calls, RowStands, AnsweredByThe
 
 use board::run;
 use book::Answer;
-use calls::{Call, Store};
+use calls::Call;
 use fault::Fault;
-use port::Port;
+use port::{Port, Store};
 use row::BLANK;
 use std::alloc::{AllocError, Global};
 
@@ -82,10 +82,10 @@ pub struct Replayed {
 }
 
 // The calls of the incident, with the display's clear or without it.
-fn make_calls(heap: Global, clears: bool) -> Result<Vec<Call>, AllocError>
+fn make_calls(alloc: Global, clears: bool) -> Result<Vec<Call>, AllocError>
     ensures { IfOk result (λ calls. calls.items ≡ incident_calls clears) }
 {
-    let mut calls = Vec::new(heap);
+    let mut calls = Vec::new(alloc);
     calls.extend_from_slice(&UP_TO_THE_GRANT)?;
     if clears {
         calls.push(CLEAR)?;
@@ -117,17 +117,14 @@ fn row_at(answers: &[Result<Answer, Fault>], first: u8) -> Option<Row>
 }
 
 /// Replays the incident on a board over a port, with the display's clear or without it.
-pub fn replay<P: Port + Drop>(heap: Global, port: P, clears: bool) -> Result<Replayed, AllocError>
-    requires { P.sound port }
+pub fn replay<P: Port + Drop>(alloc: Global, port: P, clears: bool) -> Result<Replayed, AllocError>
     ensures calls { IfOk result (λ told. told.calls.items ≡ incident_calls clears) }
     ensures answers { IfOk result (λ told. AnsweredByTheBook (P.state port) (incident_calls clears) told.answers.items) }
     ensures taken { IfOk result (λ told. RowsAreTheAnswers clears told.answers.items told.before told.after) }
     ensures rows { IfOk result (λ told. RowStands (P.state port) → ReadsTheNewestRow clears told.before told.after) }
 {
-    let calls = make_calls(heap, clears)?;
-    let Ok(outcome) = run(heap, port, &calls) else {
-        return Err(AllocError);
-    };
+    let calls = make_calls(alloc, clears)?;
+    let outcome = run(alloc, port, &calls)?;
     let answers = outcome.answers;
     let before = row_at(&answers, FIRST_READING);
     let after = row_at(&answers, LAST_READING + u8::from(clears));

@@ -5,7 +5,7 @@ use banks::{EpromBank, RamBank};
 use board::run;
 use cache::Cache;
 use calls::Call;
-use card::{AnswerText, stock_image, stock_lines};
+use card::{stock_image, stock_lines};
 use directory::WayState;
 use directory_walk::{SetTold, walk_sets};
 use fault::Fault;
@@ -23,8 +23,8 @@ static FILLED: [u32; 9] = [5, 261, 517, 773, 2_053, 7, 2_055, 4, 2_047];
 static WALKED: [u32; 6] = [5, 7, 4, 6, 255, 256];
 
 // The calls that flush the cache and fill each line: a read begins the fill, and seven advances bring the other words.
-fn make_calls(heap: Global, lines: &[u32]) -> Result<Vec<Call>, AllocError> {
-    let mut calls = Vec::new(heap);
+fn make_calls(alloc: Global, lines: &[u32]) -> Result<Vec<Call>, AllocError> {
+    let mut calls = Vec::new(alloc);
     calls.push(Call::Flush)?;
     for line in lines {
         calls.push(Call::Read(line.wrapping_mul(8)))?;
@@ -43,6 +43,7 @@ fn print_way(
 ) -> io::Result<()> {
     match told {
         Ok(told) => {
+            // Flags as 0 and 1: one line of this program prints them, so marks have no `Display`.
             let valid = told.valid as u8;
             let protect = told.protect as u8;
             let tag = told.tag;
@@ -53,35 +54,24 @@ fn print_way(
                 "set {set} way {way}: valid {valid} protect {protect} tag {tag} marks {m0}{m1}{m2}"
             )
         }
-        Err(fault) => {
-            let refused = AnswerText(Err(*fault));
-            println!(rt; "set {set} way {way}: {refused}")
-        }
+        Err(fault) => println!(rt; "set {set} way {way}: {fault}"),
     }
 }
 
 fn print_set(rt: &HostRuntime, told: &SetTold) -> io::Result<()> {
-    let mut way = 0u32;
-    for answer in told.ways.iter() {
+    for (way, answer) in (0u32..).zip(told.ways.iter()) {
         print_way(rt, told.set, way, answer)?;
-        way = way.saturating_add(1);
     }
     Ok(())
 }
 
 // Fills the lines on a board over the memory, and prints what a walk through the directory finds.
-fn test_directory<P: Port + Drop>(rt: &HostRuntime, memory: P) -> io::Result<()>
-    requires { P.sound memory }
-{
+fn test_directory<P: Port + Drop>(rt: &HostRuntime, memory: P) -> io::Result<()> {
     let calls = make_calls(rt.alloc(), &FILLED)?;
-    let Ok(outcome) = run(rt.alloc(), Cache::new(WriteBuffer::new(memory)), &calls) else {
-        return Err(AllocError.into());
-    };
+    let outcome = run(rt.alloc(), Cache::new(WriteBuffer::new(memory)), &calls)?;
     for (call, answer) in calls.iter().zip(outcome.answers.iter()) {
         if let Err(fault) = answer {
-            let name = call.name();
-            let refused = AnswerText(Err(*fault));
-            println!(rt; "{name} {refused}")?;
+            println!(rt; "{call} {fault}")?;
         }
     }
     let found = walk_sets(rt.alloc(), &outcome.board, &WALKED)?;

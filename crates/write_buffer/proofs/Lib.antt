@@ -1,5 +1,5 @@
 pub mod Queueing
 pub mod Answering
-pub mod Sending
+pub mod SendingLemmas
 pub mod Passing
 pub mod Ordering

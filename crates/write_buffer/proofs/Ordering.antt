@@ -1,7 +1,7 @@
 -- Nothing is lost between a buffer and the port below.
 use Rattle.std.proofs.Common.{◌≡◌, List, [], ◌∷◌, ◌++◌, Ok, Err, sym, refl, ap, ◌∙◌, subst, append_assoc, append-nil}
-use Rattle.port.specs.declared.Write.{Write}
-use Rattle.port.specs.Memory.{State}
+use Rattle.port.specs.declared.Port.{Ghosts}
+use Rattle.port.specs.declared.Store.{Store}
 use Rattle.port.specs.Meaning.{ByAnswer}
 use Rattle.port.specs.Steps.{Step, reads, writes, advances, outsides, snoops, flushes, Chain, done, then}
 use Rattle.port.proofs.Checking.{Answer}
@@ -20,22 +20,22 @@ heard-append : (xs ys : List Step) → heard (xs ++ ys) ≡ heard xs ++ heard ys
 heard-append [] ys = refl
 heard-append (x ∷ xs) ys = ap (λ l. heard_by x ++ l) (heard-append xs ys) ∙ sym (append_assoc (heard_by x) (heard xs) (heard ys))
 
-written_sends : (ws : List Write) → written (sends ws) ≡ ws
+written_sends : (ws : List Store) → written (sends ws) ≡ ws
 written_sends [] = refl
 written_sends (w ∷ ws) = ap (λ l. w ∷ l) (written_sends ws)
 
-heard_sends : (ws : List Write) → heard (sends ws) ≡ []
+heard_sends : (ws : List Store) → heard (sends ws) ≡ []
 heard_sends [] = refl
 heard_sends (w ∷ ws) = heard_sends ws
 
 -- the lines of two runs, one after the other
-lines_then : (xs ys qb qm qc ws vs : List Write) → xs ++ qm ≡ qb ++ ws → ys ++ qc ≡ qm ++ vs → (xs ++ ys) ++ qc ≡ qb ++ (ws ++ vs)
+lines_then : (xs ys qb qm qc ws vs : List Store) → xs ++ qm ≡ qb ++ ws → ys ++ qc ≡ qm ++ vs → (xs ++ ys) ++ qc ≡ qb ++ (ws ++ vs)
 lines_then xs ys qb qm qc ws vs a b =
     append_assoc xs ys qc ∙ ap (λ l. xs ++ l) b ∙ sym (append_assoc xs qm vs) ∙ ap (λ l. l ++ vs) a ∙ append_assoc qb ws vs
 
-below_then : {P : Type 0} (does : P → Step → P → Type 0) (ws vs : List Write) (hs gs : List Step) (b m c : WriteBuffer P) →
-    Below does ws hs b m → Below does vs gs m c → Below does (ws ++ vs) (hs ++ gs) b c
-below_then does ws vs hs gs b m c x y = record {
+below_then : {P : Type 0} {G : Ghosts P} (ws vs : List Store) (hs gs : List Step) (b m c : WriteBuffer P G) →
+    Below ws hs b m → Below vs gs m c → Below (ws ++ vs) (hs ++ gs) b c
+below_then ws vs hs gs b m c x y = record {
   calls = x.calls ++ y.calls;
   chain = chain_append x.chain y.chain;
   order = ap (λ l. l ++ queued c.queue) (written-append x.calls y.calls) ∙
@@ -43,25 +43,25 @@ below_then does ws vs hs gs b m c x y = record {
   passed = heard-append x.calls y.calls ∙ ap (λ l. l ++ heard y.calls) x.passed ∙ ap (λ l. hs ++ l) y.passed;
 }
 
-none_below : {P : Type 0} (does : P → Step → P → Type 0) (b : WriteBuffer P) → Below does [] [] b b
-none_below does b = record { calls = []; chain = done; order = sym (append-nil (queued b.queue)); passed = refl }
+none_below : {P : Type 0} {G : Ghosts P} (b : WriteBuffer P G) → Below [] [] b b
+none_below b = record { calls = []; chain = done; order = sym (append-nil (queued b.queue)); passed = refl }
 
-unchanged : {P : Type 0} (does : P → Step → P → Type 0) (b c : WriteBuffer P) → c ≡ b → Below does [] [] b c
-unchanged {P} does b c e = let F : WriteBuffer P → Type 0 = λ x. Below does [] [] b x in subst F (sym e) (none_below does b)
+unchanged : {P : Type 0} {G : Ghosts P} (b c : WriteBuffer P G) → c ≡ b → Below [] [] b c
+unchanged {P} {G} b c e = let F : WriteBuffer P G → Type 0 = λ x. Below [] [] b x in subst F (sym e) (none_below b)
 
 -- a call passed on, with what it hands over
-passed_below : {P : Type 0} (does : P → Step → P → Type 0) (d : Step) (hs : List Step) (b c : WriteBuffer P) → written_by d ≡ [] → heard_by d ≡ hs →
-    PassesOn does d b c → Below does [] hs b c
-passed_below does d hs b c none e a = record {
+passed_below : {P : Type 0} {G : Ghosts P} (d : Step) (hs : List Step) (b c : WriteBuffer P G) → written_by d ≡ [] → heard_by d ≡ hs →
+    PassesOn d b c → Below [] hs b c
+passed_below d hs b c none e a = record {
   calls = d ∷ [];
   chain = a.below;
   order = ap (λ l. (l ++ []) ++ queued c.queue) none ∙ ap queued a.queue ∙ sym (append-nil (queued b.queue));
   passed = append-nil (heard_by d) ∙ e;
 }
 
-read_below : {P : Type 0} (does : P → Step → P → Type 0) (d : Step) (b c : WriteBuffer P) → written_by d ≡ [] → heard_by d ≡ [] →
-    queued c.queue ≡ [] → Chain does b.below (sends (queued b.queue) ++ (d ∷ [])) c.below → Below does [] [] b c
-read_below does d b c none quiet empty chain =
+read_below : {P : Type 0} {G : Ghosts P} (d : Step) (b c : WriteBuffer P G) → written_by d ≡ [] → heard_by d ≡ [] →
+    queued c.queue ≡ [] → Chain G.does b.below (sends (queued b.queue) ++ (d ∷ [])) c.below → Below [] [] b c
+read_below d b c none quiet empty chain =
     let ws = queued b.queue in
     record {
       calls = sends ws ++ (d ∷ []);
@@ -71,8 +71,8 @@ read_below does d b c none quiet empty chain =
       passed = heard-append (sends ws) (d ∷ []) ∙ ap (λ l. l ++ (heard_by d ++ [])) (heard_sends ws) ∙ ap (λ (l : List Step). l ++ []) quiet;
     }
 
-write_below : {P : Type 0} (does : P → Step → P → Type 0) (w : Write) (b c : WriteBuffer P) → Joins does w b c → Below does (w ∷ []) [] b c
-write_below does w b c a =
+write_below : {P : Type 0} {G : Ghosts P} (w : Store) (b c : WriteBuffer P G) → Joins w b c → Below (w ∷ []) [] b c
+write_below w b c a =
     let ws = queued b.queue in
     let gone = left (leaving ws) in
     record {
@@ -82,35 +82,35 @@ write_below does w b c a =
       passed = heard_sends gone;
     }
 
-sent_below : {P : Type 0} (state : P → State) (does : P → Step → P → Type 0) (w : Write) (b c : WriteBuffer P) → queued b.queue ≡ w ∷ queued c.queue →
-    SendsOn state does w b.below c.below → Below does [] [] b c
-sent_below state does w b c line (settled chain none) =
+sent_below : {P : Type 0} {G : Ghosts P} (w : Store) (b c : WriteBuffer P G) → queued b.queue ≡ w ∷ queued c.queue →
+    SendsOn G.state G.does w b.below c.below → Below [] [] b c
+sent_below w b c line (settled chain none) =
     record { calls = writes w (Ok tt) ∷ []; chain = chain; order = sym line ∙ sym (append-nil (queued b.queue)); passed = refl }
-sent_below state does w b c line (waited middle sent waits chain) =
+sent_below w b c line (waited middle sent waits chain) =
     record { calls = writes w (Ok tt) ∷ advances ∷ []; chain = chain_append sent chain; order = sym line ∙ sym (append-nil (queued b.queue)); passed = refl }
 
-advance_below : {P : Type 0} (state : P → State) (does : P → Step → P → Type 0) (b c : WriteBuffer P) → AdvancesOne state does b c → Below does [] [] b c
-advance_below state does b c (below waits a) = passed_below does advances [] b c refl refl a
-advance_below state does b c (oldest w none line a) = sent_below state does w b c line a
-advance_below state does b c (idle none empty same) = unchanged does b c same
+advance_below : {P : Type 0} {G : Ghosts P} (b c : WriteBuffer P G) → AdvancesOne b c → Below [] [] b c
+advance_below b c (below waits a) = passed_below advances [] b c refl refl a
+advance_below b c (oldest w none line a) = sent_below w b c line a
+advance_below b c (idle none empty same) = unchanged b c same
 
 either : {R : Type 0} (A B : Type 0) (r : Answer) → (A → R) → (B → R) → ByAnswer r A B → R
 either A B (Ok _) f g a = f a
 either A B (Err _) f g a = g a
 
-step_below : {P : Type 0} (state : P → State) (does : P → Step → P → Type 0) (d : Step) (b c : WriteBuffer P) → Does state does b d c → Below does (written_by d) (heard_by d) b c
-step_below state does (reads w r) b c a =
-    either (SendsAndReads does w r b c) (c ≡ b) _ (λ h. read_below does (reads w r) b c refl refl h.queue h.below) (unchanged does b c) a
-step_below state does (writes w (Ok _)) b c a = write_below does w b c a
-step_below state does (writes w (Err _)) b c a = unchanged does b c a
-step_below state does advances b c a = advance_below state does b c a
-step_below state does (outsides w (Ok u)) b c a = passed_below does (outsides w (Ok u)) (outsides w (Ok tt) ∷ []) b c refl refl a
-step_below state does (outsides w (Err _)) b c a = unchanged does b c a
-step_below state does (snoops w (Ok u)) b c a = passed_below does (snoops w (Ok u)) (snoops w (Ok tt) ∷ []) b c refl refl a
-step_below state does (snoops w (Err _)) b c a = unchanged does b c a
-step_below state does flushes b c a = passed_below does flushes (flushes ∷ []) b c refl refl a
+step_below : {P : Type 0} {G : Ghosts P} (d : Step) (b c : WriteBuffer P G) → Does b d c → Below (written_by d) (heard_by d) b c
+step_below (reads w r) b c a =
+    either (SendsAndReads w r b c) (c ≡ b) _ (λ h. read_below (reads w r) b c refl refl h.queue h.below) (unchanged b c) a
+step_below (writes w (Ok _)) b c a = write_below w b c a
+step_below (writes w (Err _)) b c a = unchanged b c a
+step_below advances b c a = advance_below b c a
+step_below (outsides w (Ok u)) b c a = passed_below (outsides w (Ok u)) (outsides w (Ok tt) ∷ []) b c refl refl a
+step_below (outsides w (Err _)) b c a = unchanged b c a
+step_below (snoops w (Ok u)) b c a = passed_below (snoops w (Ok u)) (snoops w (Ok tt) ∷ []) b c refl refl a
+step_below (snoops w (Err _)) b c a = unchanged b c a
+step_below flushes b c a = passed_below flushes (flushes ∷ []) b c refl refl a
 
-pub nothing_is_lost : {P : Type 0} (state : P → State) (does : P → Step → P → Type 0) → NothingIsLost state does
-nothing_is_lost state does b c [] done = none_below does b
-nothing_is_lost state does b c (d ∷ ds) (then {q = m} h rest) =
-    below_then does (written_by d) (written ds) (heard_by d) (heard ds) b m c (step_below state does d b m h) (nothing_is_lost state does m c ds rest)
+pub nothing_is_lost : {P : Type 0} (G : Ghosts P) → NothingIsLost G
+nothing_is_lost G b c [] done = none_below b
+nothing_is_lost G b c (d ∷ ds) (then {q = m} h rest) =
+    below_then (written_by d) (written ds) (heard_by d) (heard ds) b m c (step_below d b m h) (nothing_is_lost G m c ds rest)

@@ -1,3 +1,4 @@
+pub mod Taking
 pub mod Queues
 pub mod Buffering
 pub mod Runs

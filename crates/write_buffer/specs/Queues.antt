@@ -1,39 +1,39 @@
 -- The line of writes in a queue, and how it changes.
 use Rattle.std.specs.Prelude.{◌≡◌, ◌≤◌, cond, List, [], ◌∷◌, ◌++◌, length, take, Some, None, Option, nat_lt}
-use Rattle.port.specs.declared.Write.{Write}
+use Rattle.port.specs.declared.Store.{Store}
 use Rattle.write_buffer.specs.declared.queue.Queue.{Queue}
 
 -- The writes that wait, the oldest first.
-abbrev pub queued : Queue → List Write
+abbrev pub queued : Queue → List Store
 queued q = take q.len q.writes
 
-abbrev pub oldest : List Write → Option Write
+abbrev pub oldest : List Store → Option Store
 oldest [] = None
 oldest (w ∷ ws) = Some w
 
-abbrev pub younger : List Write → List Write
+abbrev pub younger : List Store → List Store
 younger [] = []
 younger (w ∷ ws) = ws
 
 -- A queue has four places: who joins a full one makes the oldest leave.
-abbrev pub leaving : List Write → Option Write
+abbrev pub leaving : List Store → Option Store
 leaving ws = cond (nat_lt (length ws) 4) None (oldest ws)
 
-abbrev pub staying : List Write → List Write
+abbrev pub staying : List Store → List Store
 staying ws = cond (nat_lt (length ws) 4) ws (younger ws)
 
-abbrev pub joined : Write → List Write → List Write
+abbrev pub joined : Store → List Store → List Store
 joined w ws = staying ws ++ (w ∷ [])
 
 -- The writes that left, as a line.
-abbrev pub left : Option Write → List Write
+abbrev pub left : Option Store → List Store
 left None = []
 left (Some w) = w ∷ []
 
 pub record OldestLeavesFirst : Type 0 where
   -- what leaves and what stays make up the line with its new write, in order: none is lost, doubled or passed
-  pub whole : (w : Write) (ws : List Write) → left (leaving ws) ++ joined w ws ≡ ws ++ (w ∷ [])
+  pub whole : (w : Store) (ws : List Store) → left (leaving ws) ++ joined w ws ≡ ws ++ (w ∷ [])
   -- four at most wait
-  pub four : (w : Write) (ws : List Write) → length ws ≤ 4 → length (joined w ws) ≤ 4
+  pub four : (w : Store) (ws : List Store) → length ws ≤ 4 → length (joined w ws) ≤ 4
   -- none leaves a queue that has a free place
-  pub free : (ws : List Write) → length ws ≤ 3 → leaving ws ≡ None
+  pub free : (ws : List Store) → length ws ≤ 3 → leaving ws ≡ None

@@ -1,14 +1,14 @@
 -- What the port below a buffer gets in a run of calls.
 use Rattle.std.specs.Prelude.{◌≡◌, List, [], ◌∷◌, ◌++◌, Ok, Err}
-use Rattle.port.specs.declared.Write.{Write}
-use Rattle.port.specs.Memory.{State}
+use Rattle.port.specs.declared.Port.{Ghosts}
+use Rattle.port.specs.declared.Store.{Store}
 use Rattle.port.specs.Steps.{Step, reads, writes, advances, outsides, snoops, flushes, Chain}
 use Rattle.write_buffer.specs.declared.buffer.WriteBuffer.{WriteBuffer}
 use Rattle.write_buffer.specs.Queues.{queued}
 use Rattle.write_buffer.specs.Buffering.{Does}
 
 -- The accepted processor writes among some calls.
-abbrev pub written_by : Step → List Write
+abbrev pub written_by : Step → List Store
 written_by (reads w r) = []
 written_by (writes w (Ok _)) = w ∷ []
 written_by (writes w (Err _)) = []
@@ -17,7 +17,7 @@ written_by (outsides w r) = []
 written_by (snoops w r) = []
 written_by flushes = []
 
-abbrev pub written : List Step → List Write
+abbrev pub written : List Step → List Store
 written [] = []
 written (d ∷ ds) = written_by d ++ written ds
 
@@ -37,15 +37,15 @@ heard [] = []
 heard (d ∷ ds) = heard_by d ++ heard ds
 
 -- Some calls below lead from one buffer to the other.
-pub record Below {P : Type 0} (does : P → Step → P → Type 0) (ws : List Write) (hs : List Step) (b c : WriteBuffer P) : Type 0 where
+pub record Below {P : Type 0} {G : Ghosts P} (ws : List Store) (hs : List Step) (b c : WriteBuffer P G) : Type 0 where
   pub calls : List Step
-  pub chain : Chain does b.below calls c.below
+  pub chain : Chain G.does b.below calls c.below
   -- what was queued before, and then the writes ws, went below or is queued still: each once, and in order
   pub order : written calls ++ queued c.queue ≡ queued b.queue ++ ws
   -- the calls hs, and no others of their kind, were passed on
   pub passed : heard calls ≡ hs
 
 -- However a buffer is called, no write is lost, doubled or overtaken, and whatever stages have to hear of goes through.
-abbrev pub NothingIsLost : {P : Type 0} → (P → State) → (P → Step → P → Type 0) → Type 0
-NothingIsLost {P} state does =
-    (b c : WriteBuffer P) (ds : List Step) → Chain (Does state does) b ds c → Below does (written ds) (heard ds) b c
+abbrev pub NothingIsLost : {P : Type 0} → Ghosts P → Type 0
+NothingIsLost {P} G =
+    (b c : WriteBuffer P G) (ds : List Step) → Chain Does b ds c → Below (written ds) (heard ds) b c

@@ -1,73 +1,32 @@
 //! The stage itself: a queue over any port, which is a port again.
-ghost use Rattle.std.specs.Prelude.{◌≡◌, ◌≤◌, [], ◌∷◌, length, Ok};
-ghost use Rattle.port.specs.Memory.{posted};
-ghost use Rattle.port.specs.Meaning.{write_answer, Settles};
-ghost use Rattle.port.specs.Steps.{writes, Chain};
 ghost use Rattle.write_buffer.specs.Queues.{queued};
-ghost use Rattle.write_buffer.specs.Buffering.{buffered, sends, Takes, Sound, SendsOn, Does, BufferingIsLawful};
-ghost use Rattle.write_buffer.specs.Runs.{NothingIsLost};
+ghost use Rattle.write_buffer.specs.Taking.{Takes, Takes-prop};
 
 use super::queue::Queue;
+use super::sending::{send, send_all, send_on};
 use fault::Fault;
-use port::{Port, Write, check_range, check_write};
+use port::{Port, Store, check_range, check_write};
 
 /// A port whose processor writes wait in a queue before they go to the port below.
 #[derive(Drop)]
 pub struct WriteBuffer<P: Port> {
     below: P,
     queue: Queue,
-}
-
-// Sends a write to a port that takes it.
-fn send<P: Port>(below: &mut P, write: Write)
-    requires sound { P.sound below.old }
-    requires taken { write_answer (P.state below.old) write ≡ Ok tt }
-    ensures sound { P.sound below.new }
-    ensures after { Settles (posted (write ∷ []) (P.state below.old)) (P.state below.new) }
-    ensures did { P.does below.old (writes write (Ok tt)) below.new }
-{
-    // It is taken, so there is no refusal to pass up.
-    let _ = below.write(write.word, write.lanes, write.value);
-}
-
-// Sends a write to a port that takes it; if it still waits there, that port advances once.
-fn send_on<P: Port>(below: &mut P, write: Write)
-    requires sound { P.sound below.old }
-    requires taken { write_answer (P.state below.old) write ≡ Ok tt }
-    ensures sound { P.sound below.new }
-    ensures after { Settles (posted (write ∷ []) (P.state below.old)) (P.state below.new) }
-    ensures fewer { length (P.state below.new).waiting ≤ length (P.state below.old).waiting }
-    ensures did { SendsOn P.state P.does write below.old below.new }
-{
-    send(below, write);
-    if below.waiting() > 0 {
-        below.advance();
-    }
-}
-
-// Sends every write of a queue to a port that takes them, the oldest first.
-fn send_all<P: Port>(below: &mut P, queue: &mut Queue)
-    requires sound { P.sound below.old }
-    requires taken { Takes (P.state below.old).facts (queued queue.old) }
-    ensures sound { P.sound below.new }
-    ensures queue { queued queue.new ≡ [] }
-    ensures after { Settles (posted (queued queue.old) (P.state below.old)) (P.state below.new) }
-    ensures did { Chain P.does below.old (sends (queued queue.old)) below.new }
-{
-    while let Some(oldest) = queue.pop() {
-        send(below, oldest);
-    }
+    // The port below takes whatever waits in the queue.
+    pub ghost taken: { Takes (P.state below).facts (queued queue) } by { Takes-prop (P.state below).facts (queued queue) },
 }
 
 impl<P: Port> WriteBuffer<P> {
+    ghost use Rattle.std.specs.Prelude.{◌≡◌, []};
+    ghost use Rattle.write_buffer.specs.Buffering.{BufferingIsLawful};
+    ghost use Rattle.write_buffer.specs.Runs.{NothingIsLost};
+
     /// A buffer over a port, in which nothing waits yet.
     pub fn new(below: P) -> WriteBuffer<P>
-        requires { P.sound below }
-        ensures sound { Sound P.state P.sound result }
         ensures below { result.below ≡ below }
         ensures queue { queued result.queue ≡ [] }
         ensures law { BufferingIsLawful }
-        ensures run { NothingIsLost P.state P.does }
+        ensures run { NothingIsLost P.Port }
     {
         WriteBuffer {
             below,
@@ -86,11 +45,11 @@ impl<P: Port> WriteBuffer<P> {
 }
 
 impl<P: Port> Port for WriteBuffer<P> {
+    ghost use Rattle.write_buffer.specs.Buffering.{buffered, Does};
+
     ghost state = { λ b. buffered (P.state b.below) (queued b.queue) };
 
-    ghost sound = { λ b. Sound P.state P.sound b };
-
-    ghost does = { λ b d c. Does P.state P.does b d c };
+    ghost does = { Does };
 
     fn words(&self) -> u32 {
         self.below.words()
@@ -115,9 +74,9 @@ impl<P: Port> Port for WriteBuffer<P> {
         self.below.read(word)
     }
 
-    fn write(&mut self, word: u32, lanes: u8, value: u16) -> Result<(), Fault> {
-        check_write(word, lanes, self.words(), self.floor())?;
-        if let Some(oldest) = self.queue.push(Write { word, lanes, value }) {
+    fn write(&mut self, write: Store) -> Result<(), Fault> {
+        check_write(write, self.words(), self.floor())?;
+        if let Some(oldest) = self.queue.push(write) {
             send(&mut self.below, oldest);
         }
         Ok(())
@@ -136,9 +95,9 @@ impl<P: Port> Port for WriteBuffer<P> {
         self.below.settled_read(word)
     }
 
-    fn outside_write(&mut self, word: u32, lanes: u8, value: u16) -> Result<(), Fault> {
-        check_write(word, lanes, self.words(), self.floor())?;
-        self.below.outside_write(word, lanes, value)
+    fn outside_write(&mut self, write: Store) -> Result<(), Fault> {
+        check_write(write, self.words(), self.floor())?;
+        self.below.outside_write(write)
     }
 
     fn snoop(&mut self, word: u32) -> Result<(), Fault> {

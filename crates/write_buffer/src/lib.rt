@@ -3,6 +3,7 @@
 
 mod buffer;
 mod queue;
+mod sending;
 
 pub use buffer::WriteBuffer;
 pub use queue::Queue;

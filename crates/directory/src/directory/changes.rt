@@ -7,7 +7,7 @@ ghost use Rattle.directory.specs.Examples.{WorkedExamples};
 
 use super::{Directory, set_of, tag_of};
 use crate::marks::WayNumber;
-use crate::sets::{EMPTY_SET, SetRecord};
+use crate::sets::{EMPTY_SET, Way};
 
 impl Directory {
     /// A directory with no valid way, never touched.
@@ -20,7 +20,7 @@ impl Directory {
         }
     }
 
-    /// Clears all valid flags and all marks.
+    /// Empties all ways and clears all marks.
     pub fn clear(&mut self)
         ensures { view self.new ≡ emptied }
     {
@@ -33,8 +33,7 @@ impl Directory {
         ensures only { OnlyMarksOfOneSet (view self.old) (view self.new) (set_of line) }
         ensures law { TouchedWayIsSpared }
     {
-        let sets: &mut [SetRecord] = &mut self.sets;
-        sets[set_of(line)].touch(way);
+        self.sets[set_of(line)].touch(way);
     }
 
     /// Puts a line that no way holds into a way of its set, and touches that way.
@@ -43,18 +42,21 @@ impl Directory {
         ensures after { view self.new ≡ installed (view self.old) line way protect words }
         ensures law { InstallKeepsOtherLines (view self.old) (view self.new) line way }
     {
-        let sets: &mut [SetRecord] = &mut self.sets;
-        sets[set_of(line)].install(way, tag_of(line), protect, words);
+        let held = Way {
+            protect,
+            tag: tag_of(line),
+            words,
+        };
+        self.sets[set_of(line)].install(way, held);
     }
 
-    /// Clears the valid flag of the way that holds the line, if there is one. The marks stay.
+    /// Empties the way that holds the line, if there is one. The marks stay.
     pub fn drop_line(&mut self, line: u32)
         ensures after { view self.new ≡ dropped (view self.old) line }
         ensures law { DropForgetsOneLine (view self.old) (view self.new) line }
     {
         if let Some(way) = self.lookup(line) {
-            let sets: &mut [SetRecord] = &mut self.sets;
-            sets[set_of(line)].invalidate(way);
+            self.sets[set_of(line)].invalidate(way);
         }
     }
 
@@ -63,7 +65,6 @@ impl Directory {
         ensures after { view self.new ≡ changed (view self.old) word way value }
         ensures law { ChangeMovesNoLine (view self.old) (view self.new) }
     {
-        let sets: &mut [SetRecord] = &mut self.sets;
-        sets[set_of(word / 8)].change(way, (word % 8) as usize, value);
+        self.sets[set_of(word / 8)].change(way, (word % 8) as usize, value);
     }
 }

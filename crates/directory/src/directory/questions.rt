@@ -7,10 +7,11 @@ ghost use Rattle.directory.specs.Laws.{OneWayHoldsALine};
 
 use super::{Directory, SETS, set_of, tag_of};
 use crate::marks::{Marks, WayNumber};
-use crate::sets::{SetRecord, Way};
+use crate::sets::Way;
 
-/// What is told of a way: its flags and tag, both 0 where it is invalid, and the marks of its set.
-#[derive(Clone, Copy)]
+/// What is told of a way: its flags and tag, all 0 where it is invalid, and the marks of its set. No `Option` of a line, since the old
+/// program reads each of them of every way.
+#[derive(Clone, Copy, Debug, PartialEq)]
 pub struct WayState {
     pub valid: bool,
     pub protect: bool,
@@ -24,41 +25,37 @@ impl Directory {
         ensures value { result ≡ found (view self.now) line }
         ensures law { OneWayHoldsALine (view self.now) }
     {
-        let sets: &[SetRecord] = &self.sets;
-        sets[set_of(line)].find(tag_of(line))
+        self.sets[set_of(line)].find(tag_of(line))
     }
 
-    /// A way of the line's set; an invalid one shows nothing.
-    pub fn way(&self, line: u32, way: WayNumber) -> Way
+    /// A way of the line's set, if it is valid.
+    pub fn way(&self, line: u32, way: WayNumber) -> Option<Way>
         ensures { result ≡ (view self.now).way (set_of line) way }
     {
-        let sets: &[SetRecord] = &self.sets;
-        sets[set_of(line)].way(way)
+        self.sets[set_of(line)].way(way)
     }
 
     /// The way that the next line of this line's set replaces.
     pub fn victim(&self, line: u32) -> WayNumber
         ensures { result ≡ victim_of ((view self.now).marks (set_of line)) }
     {
-        let sets: &[SetRecord] = &self.sets;
-        sets[set_of(line)].marks().victim()
+        self.sets[set_of(line)].marks().victim()
     }
 
-    /// What stands in a way of a set, or nothing where there is no such set or way.
+    /// What stands in a way of a set, or nothing where there is no such set or way. The way is a number here, since any number is answered.
     pub fn inspect(&self, set: u32, way: u32) -> Option<WayState>
         ensures { result ≡ inspected (view self.now) set way }
     {
         if set >= SETS {
             return None;
         }
-        let number = WayNumber::new(way)?;
-        let sets: &[SetRecord] = &self.sets;
-        let record = &sets[set as usize];
+        let number = WayNumber::try_from(way).ok()?;
+        let record = &self.sets[set as usize];
         let way = record.way(number);
         Some(WayState {
-            valid: way.valid,
-            protect: way.protect,
-            tag: way.tag,
+            valid: way.is_some(),
+            protect: way.is_some_and(|way| way.protect),
+            tag: way.map_or(0, |way| way.tag),
             marks: record.marks(),
         })
     }
@@ -68,11 +65,6 @@ impl Directory {
         ensures value { result ≡ valid_ways (view self.now) }
         ensures few { result ≤ 1024 }
     {
-        let mut count = 0;
-        let sets: &[SetRecord] = &self.sets;
-        for record in sets {
-            count += record.valid_ways();
-        }
-        count
+        self.sets.iter().map(|record| record.valid_ways()).sum()
     }
 }

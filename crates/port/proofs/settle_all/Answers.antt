@@ -6,17 +6,15 @@ use Rattle.port.proofs.settle_all.Goals as goal
 pub loop-port-preserved : goal.loop-port-preserved
 loop-port-preserved g c =
     let waits : 0 < length (g.P.Port.state c.loop-port.port).waiting = omega arith in (
-      c.advance.ensures.sound,
-      settles_then _ _ _ c.loop-port.invariant.1 c.advance.ensures.after.settles,
-      λ end drains. c.loop-port.invariant.2 end (more waits c.advance.ensures.did drains),
+      settles_then _ _ _ c.loop-port.invariant.0 c.advance.ensures.after.settles,
+      λ end drains. c.loop-port.invariant.1 end (more waits c.advance.ensures.did drains),
     )
 
 pub returns : goal.returns
 returns g c =
     let none : (g.P.Port.state c.loop-port.port).waiting ≡ [] = none_waits (g.P.Port.state c.loop-port.port).waiting (omega arith) in
     record {
-      sound = c.loop-port.invariant.0;
-      after = settles_all _ _ c.loop-port.invariant.1 none;
-      did = c.loop-port.invariant.2 c.loop-port.port (empty none);
+      after = settles_all _ _ c.loop-port.invariant.0 none;
+      did = c.loop-port.invariant.1 c.loop-port.port (empty none);
       law = settling_is_lawful;
     }

@@ -5,7 +5,6 @@ use Rattle.port.proofs.settle_all.Given as goal
 
 abbrev pub invariant-loop-port : goal.invariant-loop-port
 invariant-loop-port g l =
-    (g.P.Port.sound l.port) ×
     Settles (g.P.Port.state l.initial.port) (g.P.Port.state l.port) ×
     ((end : g.row.P.Denot) → Drains g.P.Port.state g.P.Port.does l.port end → Drains g.P.Port.state g.P.Port.does l.initial.port end)
 

@@ -3,7 +3,7 @@ ghost use Rattle.std.specs.Prelude.{◌≡◌, ◌≤◌, [], length};
 ghost use Rattle.write_buffer.specs.Queues.{queued, oldest, younger, leaving, joined, OldestLeavesFirst};
 
 use super::Queue;
-use port::Write;
+use port::Store;
 
 impl Queue {
     /// A queue in which nothing waits.
@@ -11,7 +11,7 @@ impl Queue {
         ensures { queued result ≡ [] }
     {
         Queue {
-            writes: [Write {
+            writes: [Store {
                 word: 0,
                 lanes: 3,
                 value: 0,
@@ -29,7 +29,7 @@ impl Queue {
     }
 
     /// Takes the oldest write out.
-    pub fn pop(&mut self) -> Option<Write>
+    pub fn pop(&mut self) -> Option<Store>
         ensures value { result ≡ oldest (queued self.old) }
         ensures after { queued self.new ≡ younger (queued self.old) }
         ensures kept { queued self.old ≡ [] → self.new ≡ self.old }
@@ -44,7 +44,7 @@ impl Queue {
     }
 
     /// Lets a write join as the youngest. Where four wait already, the oldest leaves.
-    pub fn push(&mut self, write: Write) -> Option<Write>
+    pub fn push(&mut self, write: Store) -> Option<Store>
         ensures value { result ≡ leaving (queued self.old) }
         ensures after { queued self.new ≡ joined write (queued self.old) }
         ensures law { OldestLeavesFirst }

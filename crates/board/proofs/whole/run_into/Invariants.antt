@@ -4,8 +4,7 @@ use Rattle.board.proofs.whole.run_into.Given as goal
 
 abbrev pub invariant-loop-call : goal.invariant-loop-call
 invariant-loop-call g l = record {
-  sound : g.P.Port.sound l.board.port;
-  made : (ks : List ℕ) × CallsMade g.P.Port.state g.P.Port.does l.initial.board.mode l.initial.board.port (take l.call-index l.calls) (vec_items l.answers) ks l.board.mode l.board.port;
+  made : (ks : List ℕ) × CallsMade g.P.Port l.initial.board.mode l.initial.board.port (take l.call-index l.calls) (vec_items l.answers) ks l.board.mode l.board.port;
   len : vec_len l.answers ≡ l.call-index;
   room : length l.calls ≤ vec_capacity l.answers;
 }

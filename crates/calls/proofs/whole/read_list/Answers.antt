@@ -22,10 +22,8 @@ loop-calls-preserved c = (
   turn_more _ _ _ _ _ c.loop-calls.invariant.0 c.loop-calls.invariant.1 _ _ _ _ c.in_ok-call.ensures.value c.in_ok-call.ensures.moved c.in-Some.is c.in_ok-push.ensures.items,
 )
 
-pub returns-in_err-push : goal.returns-in_err-push
-returns-in_err-push c =
-    let p = err_from_is_err_and c.from_residual-in_err-push.result c.from_residual-in_err-push.ensures.1 in
-    record { answer = rw (p.1, p.2) tt; law = list_encodes_its_calls c.args.bytes.now (λ i. (c.type_inv.bytes i).fits) }
+pub returns-in_err-push-clause-law : goal.returns-in_err-push-clause-law
+returns-in_err-push-clause-law c = list_encodes_its_calls c.args.bytes.now (λ i. (c.type_inv.bytes i).fits)
 
 pub returns : goal.returns
 returns c =

@@ -1,61 +1,45 @@
-use Rattle.directory.specs.View.{view}
-use Rattle.cache_tables.specs.Showing.{shown}
+use Rattle.std.proofs.Common.{rules}
 use Rattle.cache_tables.specs.Rules.{model}
-use Rattle.port.proofs.Settling.{settles_none}
-use Rattle.cache_tables.proofs.Fetching.{read_there, filling, fetch_inside, fetch_ok, fetch_err, fetch_chain, fetch_kept, no_fill, no_calls}
+use Rattle.cache_tables.proofs.Fetching.{fetch_kept, no_fill, no_calls}
+use Rattle.cache.proofs.Calling.{word_came, word_lost, word_asked}
 use Rattle.cache.proofs.cache.Cache.fetch_one.Goals as goal
 
 pub next_word-requires : goal.next_word-requires
-next_word-requires g c =
-    let v = shown (g.P.Port.state c.args.self.now.below) in
-    (filling v (view c.args.self.now.tables.directory) c.args.self.now.tables.fill c.in-Some.fill c.in-Some.is c.requires.kept).under
+next_word-requires g c = (c.args.self.now.coherent.fill c.in-Some.fill c.in-Some.is).under
 
-pub stow-requires : goal.stow-requires
-stow-requires g c =
-    let v = shown (g.P.Port.state c.args.self.now.below) in
-    let h = filling v (view c.args.self.now.tables.directory) c.args.self.now.tables.fill c.in-Some.fill c.in-Some.is c.requires.kept in
-    record { under = h.under; absent = h.absent }
-
-pub returns-in-Ok : goal.returns-in-Ok
-returns-in-Ok g c =
+pub invariant_of-self : goal.invariant_of-self
+invariant_of-self g c =
     let s = g.P.Port.state c.args.self.now.below in
-    let t = g.P.Port.state c.read.new.self in
-    let d = view c.args.self.now.tables.directory in
-    let f = c.args.self.now.tables.fill in
-    let b = c.in-Some.fill in
-    let w = c.next_word.result in
-    let at = c.next_word.ensures.value in
-    let inside = fetch_inside (shown s) d f b c.in-Some.is c.requires.kept w at in
-    let e = fetch_ok (shown s) d f b c.in-Some.is c.requires.kept w at c.in-Ok.value _ (read_there s w _ inside c.in-Ok.ensures.value) c.stow.ensures in
-    record {
-      sound = record { below = c.read.ensures.sound; kept = fetch_kept s t (model c.args.self.now.tables) _ c.read.ensures.after c.requires.kept e };
-      after = c.read.ensures.after;
-      did = record { tables = e; below = fetch_chain (shown s) d f b c.in-Some.is c.requires.kept w at c.read.result (read_there s w _ inside c.read.ensures.value) c.read.ensures.did };
-    }
+    let m = model c.args.self.now.tables in
+    let kept = c.args.self.now.coherent in
+    record { coherent = fetch_kept s _ m _ c.read.ensures.after kept (word_came s m c.in-Some.fill c.next_word.result c.in-Some.is c.next_word.ensures.value kept c.in-Ok.value _ c.in-Ok.ensures.value c.stow.ensures) }
 
-pub returns-in-Err : goal.returns-in-Err
-returns-in-Err g c =
+pub invariant_of-self-in-Err : goal.invariant_of-self-in-Err
+invariant_of-self-in-Err g c =
     let s = g.P.Port.state c.args.self.now.below in
-    let t = g.P.Port.state c.read.new.self in
-    let d = view c.args.self.now.tables.directory in
-    let f = c.args.self.now.tables.fill in
-    let b = c.in-Some.fill in
-    let w = c.next_word.result in
-    let at = c.next_word.ensures.value in
-    let inside = fetch_inside (shown s) d f b c.in-Some.is c.requires.kept w at in
-    let e = fetch_err (shown s) d f b c.in-Some.is c.requires.kept w at c.in-Err.field-0 (read_there s w _ inside c.in-Err.ensures.value) in
+    let m = model c.args.self.now.tables in
+    let kept = c.args.self.now.coherent in
+    record { coherent = fetch_kept s _ m _ c.read.ensures.after kept (word_lost s m c.in-Some.fill c.next_word.result c.in-Some.is c.next_word.ensures.value kept c.in-Err.field-0 c.in-Err.ensures.value) }
+
+pub returns-in-Ok-clause-did : goal.returns-in-Ok-clause-did
+returns-in-Ok-clause-did g c =
+    let s = g.P.Port.state c.args.self.now.below in
+    let m = model c.args.self.now.tables in
+    let kept = c.args.self.now.coherent in
     record {
-      sound = record { below = c.read.ensures.sound; kept = fetch_kept s t (model c.args.self.now.tables) _ c.read.ensures.after c.requires.kept e };
-      after = c.read.ensures.after;
-      did = record { tables = e; below = fetch_chain (shown s) d f b c.in-Some.is c.requires.kept w at c.read.result (read_there s w _ inside c.read.ensures.value) c.read.ensures.did };
+      tables = word_came s m c.in-Some.fill c.next_word.result c.in-Some.is c.next_word.ensures.value kept c.in-Ok.value _ c.in-Ok.ensures.value c.stow.ensures;
+      below = word_asked s m c.in-Some.fill c.next_word.result c.in-Some.is c.next_word.ensures.value kept c.read.result c.read.ensures.value c.read.ensures.did;
     }
 
-pub returns-in_default : goal.returns-in_default
-returns-in_default g c =
-    let v = shown (g.P.Port.state c.args.self.now.below) in
-    let f = c.args.self.now.tables.fill in
+pub returns-in-Err-clause-did : goal.returns-in-Err-clause-did
+returns-in-Err-clause-did g c =
+    let s = g.P.Port.state c.args.self.now.below in
+    let m = model c.args.self.now.tables in
+    let kept = c.args.self.now.coherent in
     record {
-      sound = c.requires;
-      after = settles_none _;
-      did = record { tables = no_fill v (view c.args.self.now.tables.directory) f c.in_default.is; below = no_calls v f c.in_default.is };
+      tables = word_lost s m c.in-Some.fill c.next_word.result c.in-Some.is c.next_word.ensures.value kept c.in-Err.field-0 c.in-Err.ensures.value;
+      below = word_asked s m c.in-Some.fill c.next_word.result c.in-Some.is c.next_word.ensures.value kept c.read.result c.read.ensures.value c.read.ensures.did;
     }
+
+pub returns-in_default-clause-did : goal.returns-in_default-clause-did
+returns-in_default-clause-did g c = search (rules, no_fill, no_calls)

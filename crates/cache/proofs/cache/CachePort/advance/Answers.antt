@@ -1,6 +1,15 @@
 use Rattle.std.proofs.Common.{rules}
-use Rattle.cache.proofs.Calling.{advances_after, sound_moved, takes_advance}
+use Rattle.cache_tables.proofs.Fetching.{move}
+use Rattle.cache.proofs.Calling.{advances_after, takes_advance}
 use Rattle.cache.proofs.cache.CachePort.advance.Goals as goal
 
-pub returns : goal.returns
-returns g c = record { sound = search (rules, sound_moved); after = search (rules, advances_after); did = search (rules, takes_advance) }
+pub invariant_of-self : goal.invariant_of-self
+invariant_of-self g c =
+    let kept = c.fetch_one.new.self.coherent in
+    search (rules, move)
+
+pub returns-clause-after : goal.returns-clause-after
+returns-clause-after g c = search (rules, advances_after)
+
+pub returns-clause-did : goal.returns-clause-did
+returns-clause-did g c = search (rules, takes_advance)

@@ -1,6 +1,11 @@
 use Rattle.std.proofs.Common.{rules}
-use Rattle.cache.proofs.Calling.{same_above, sound_cleared, takes_one}
+use Rattle.cache.proofs.Calling.{cleared_kept, takes_one}
 use Rattle.cache.proofs.cache.CachePort.flush.Goals as goal
 
-pub returns : goal.returns
-returns g c = record { sound = search (rules, sound_cleared); after = search (rules, same_above); did = search (rules, takes_one) }
+pub invariant_of-self : goal.invariant_of-self
+invariant_of-self g c =
+    let kept = c.args.self.now.coherent in
+    search (rules, cleared_kept)
+
+pub returns-clause-did : goal.returns-clause-did
+returns-clause-did g c = search (rules, takes_one)

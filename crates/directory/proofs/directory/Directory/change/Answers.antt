@@ -1,4 +1,4 @@
-use Rattle.std.proofs.Common.{◌≡◌, ◌%◌, set, refl, rules}
+use Rattle.std.proofs.Common.{◌≡◌, set, rules}
 use Rattle.directory.specs.Dirs.{view_of, changed}
 use Rattle.directory.proofs.Apart.{apart_changed}
 use Rattle.directory.proofs.Changing.{after_change, apart_as, change_moves_none_as}
@@ -6,9 +6,7 @@ use Rattle.directory.proofs.directory.Directory.change.Goals.{After-change, at-r
 use Rattle.directory.proofs.directory.Directory.change.Goals as goal
 
 after : (c : After-change) → view_of (set c.args.self.now.sets c.set_of.result c.change.new.self) ≡ changed (view_of c.args.self.now.sets) c.args.word c.args.way c.args.value
-after c =
-    after_change c.args.self.now.sets c.set_of.result c.args.way c.change.new.self (search rules)
-    c.args.word (c.args.word % 8) c.args.value c.set_of.ensures.value refl c.change.ensures.wide c.change.ensures.after
+after c = search (rules, after_change)
 
 pub invariant_of-self : goal.invariant_of-self
 invariant_of-self c = record { apart = apart_as _ _ (after c) (apart_changed (view_of c.args.self.now.sets) c.args.word c.args.way c.args.value c.args.self.now.apart) }

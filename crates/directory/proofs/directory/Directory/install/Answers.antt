@@ -6,9 +6,7 @@ use Rattle.directory.proofs.directory.Directory.install.Goals.{After-install, at
 use Rattle.directory.proofs.directory.Directory.install.Goals as goal
 
 after : (c : After-install) → view_of (set c.args.self.now.sets c.set_of.result c.install.new.self) ≡ installed (view_of c.args.self.now.sets) c.args.line c.args.way c.args.protect c.args.words
-after c =
-    after_install c.args.self.now.sets c.set_of.result c.args.way c.install.new.self (search rules) c.args.line c.set_of.ensures.value
-    c.tag_of.result c.args.protect c.args.words c.tag_of.ensures c.install.ensures.wide c.install.ensures.after
+after c = search (rules, after_install)
 
 pub invariant_of-self : goal.invariant_of-self
 invariant_of-self c = record { apart = apart_as _ _ (after c) (apart_installed (view_of c.args.self.now.sets) c.args.line c.args.way c.args.protect c.args.words c.args.self.now.apart c.requires) }

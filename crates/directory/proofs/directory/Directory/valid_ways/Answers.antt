@@ -1,16 +1,18 @@
-use Rattle.std.proofs.Common.{◌≡◌, ℕ, ap, ◌∙◌, rules}
-use Rattle.directory.specs.Dirs.{view_of, valid_in, sum_below}
-use Rattle.directory.proofs.Looking.{sum_none, sum_more}
+use Rattle.std.proofs.Common.{◌≡◌, sum_by, rules, arith, tests}
+use Rattle.std.proofs.lemmas.Iterator.{YieldsList-from_slice}
+use Rattle.std.proofs.lemmas.Iterator.Adapters.{fits_from_length, at_most_from_yields_List}
+use Rattle.directory.proofs.Looking.{valid_of, summed_valid, few_valid}
+use Rattle.directory.proofs.directory.Directory.valid_ways.Goals.{After-sum}
 use Rattle.directory.proofs.directory.Directory.valid_ways.Goals as goal
 
-pub loop-record-init : goal.loop-record-init
-loop-record-init c = (sum_none (valid_in (view_of c.args.self.now.sets)), search rules)
+pub sum-requires-clause-fits : goal.sum-requires-clause-fits
+sum-requires-clause-fits c = fits_from_length _ _ 256 _ (at_most_from_yields_List (YieldsList-from_slice c.args.self.now.sets (cc)) (search rules)) c.map.ensures.closure (omega arith) (λ x r q k. search (rules, tests))
 
-pub loop-record-preserved : goal.loop-record-preserved
-loop-record-preserved c =
-    (sum_more (valid_in (view_of c.args.self.now.sets)) c.loop-record.record-index c.loop-record.count c.valid_ways-count.result c.loop-record.invariant.0 c.valid_ways-count.ensures.value, search rules)
+total : (c : After-sum) → c.sum.result ≡ sum_by valid_of c.args.self.now.sets
+total c = search rules
 
-pub returns : goal.returns
-returns c =
-    let e : c.loop-record.record-index ≡ 256 = search rules in
-    record { value = c.loop-record.invariant.0 ∙ ap (λ (n : ℕ). sum_below (valid_in (view_of c.args.self.now.sets)) n) e; few = search rules }
+pub returns-clause-value : goal.returns-clause-value
+returns-clause-value c = summed_valid c.args.self.now.sets 256 c.sum.result (search rules) (total c)
+
+pub returns-clause-few : goal.returns-clause-few
+returns-clause-few c = few_valid c.args.self.now.sets 256 c.sum.result (search rules) (total c)

@@ -2,5 +2,5 @@ use Rattle.std.proofs.Common.{rules}
 use Rattle.directory.proofs.Ticking.{next_small}
 use Rattle.directory.proofs.fills.Fill.next_place.Goals as goal
 
-pub returns : goal.returns
-returns c = search (rules, next_small)
+pub returns-clause-small : goal.returns-clause-small
+returns-clause-small c = search (rules, next_small)
