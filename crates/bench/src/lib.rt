@@ -22,6 +22,7 @@ pub fn locate(word: u32) -> Location
     ensures value { result ≡ location_of word }
     ensures cards { BenchCards }
 {
+    // The operators of the rules, and no call of a stage: the cards stand on definitions alone.
     let line = word / 8;
     Location {
         line,

@@ -30,7 +30,7 @@ pub struct NotRun<'a> {
     pub stop: Stop,
 }
 
-/// How many words a card of these records and bytes has, or why it cannot be made.
+/// How many words a card of these records and bytes has, or why it cannot be made. They are the caller's, and stay two slices.
 pub fn card_words(lines: &[Line], image: &[u8]) -> Result<u32, Fault>
     ensures { result ≡ card_size (length lines.now) (length image.now) }
 {

@@ -20,7 +20,6 @@ pub struct Directory {
 
 const SETS: u32 = 256;
 
-// The line and the place of a word, `word / 8` and `word % 8`, are operators wherever they are needed: a call would say no more.
 fn set_of(line: u32) -> usize
     ensures value { result ≡ set_of line }
     ensures small { result < 256 }

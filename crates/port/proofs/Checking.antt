@@ -14,10 +14,6 @@ as_ok A B r e a = let F : Answer → Type 0 = λ x. ByAnswer x A B in subst F (s
 pub in_ok : (A B : Type 0) (r : Answer) → r ≡ Ok tt → ByAnswer r A B → A
 in_ok A B r e a = let F : Answer → Type 0 = λ x. ByAnswer x A B in subst F e a
 
--- a call with the answer x below, where the stage's own answer y accepts it
-pub answer_passed : (r x y : Answer) → r ≡ x → x ≡ Ok tt → y ≡ Ok tt → r ≡ y
-answer_passed r x y e p o = e ∙ p ∙ sym o
-
 abbrev passed : Answer
 passed = Ok tt
 

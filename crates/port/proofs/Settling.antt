@@ -1,9 +1,9 @@
 -- How settling composes.
-use Rattle.std.proofs.Common.{◌≡◌, ℕ, ◌≤◌, Bool, true, false, cond, List, [], ◌∷◌, ◌++◌, length, Ok, Err, Result, sym, refl, ap, ◌∙◌, subst, append_assoc, append-nil, arith, length-append}
+use Rattle.std.proofs.Common.{◌≡◌, ℕ, ◌≤◌, Bool, List, [], ◌∷◌, ◌++◌, length, Ok, Err, Result, sym, refl, ap, ◌∙◌, append_assoc, append-nil, arith, length-append}
 use Rattle.fault.specs.declared.Fault.{Fault}
 use Rattle.port.specs.declared.Store.{Store}
 use Rattle.port.specs.Memory.{Memory, State, stored, applied, seen, posted, settling, drained, outside, raised}
-use Rattle.port.specs.Meaning.{Settles, ByAnswer, Kept, unreadable}
+use Rattle.port.specs.Meaning.{Settles, ByAnswer}
 use Rattle.port.specs.Laws.{SettlingIsLawful}
 
 pub applied-append : (p : ℕ → Bool) (xs ys : List Store) (m : Memory) → applied p (xs ++ ys) m ≡ applied p ys (applied p xs m)
@@ -100,8 +100,3 @@ written_drained s t u w none a e =
     e ∙ settles_drained (posted (w ∷ []) s) t a ∙
     ap (λ l. record { facts = s.facts; protected = s.protected; settled = applied s.protected (l ++ (w ∷ [])) s.settled; waiting = [] }) none ∙
     ap (λ l. record { facts = s.facts; protected = s.protected; settled = stored s.protected w s.settled; waiting = l }) (sym none)
-
--- A read of a word that is there changes what it likes only where it is accepted, or refused as unreadable.
-pub readable_kept : {P : Type 0} (p q : P) (b : Bool) (v w : ℕ) (r : Result ℕ Fault) → r ≡ cond b (Ok v) (Err (unreadable w)) → Kept r p q
-readable_kept p q true v w r e = subst (λ x. Kept x p q) (sym e) tt
-readable_kept p q false v w r e = subst (λ x. Kept x p q) (sym e) tt

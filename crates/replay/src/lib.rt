@@ -72,7 +72,8 @@ const FIRST_READING: u8 = 3;
 /// The answers to the last one begin here, and one later where the display clears the hundreds.
 const LAST_READING: u8 = 11;
 
-/// The calls, their answers, and the row as it was read before and after the display had the bus.
+/// The calls, their answers, and the row as it was read before and after the display had the bus. Calls and answers are two lists, as the promise
+/// about them speaks of two.
 #[derive(Drop)]
 pub struct Replayed {
     pub calls: Vec<Call>,
