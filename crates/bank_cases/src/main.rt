@@ -159,31 +159,38 @@ fn try_ports(rt: &HostRuntime) -> io::Result<()> {
     )
 }
 
-// A RAM bank of that many lines: its size, and its last word.
+// What the size question of a bank or a map answers, and its last word.
+fn try_size<P: Port>(
+    rt: &HostRuntime,
+    what: &str,
+    size: Result<u32, Fault>,
+    port: &mut P,
+) -> io::Result<()> {
+    print_size(rt, what, size)?;
+    print_word(rt, "read 8388607", port.read(8_388_607))
+}
+
+// A RAM bank of that many lines.
 fn try_ram(rt: &HostRuntime, what: &str, lines: usize) -> io::Result<()> {
     let mut lines = make_ram(rt.alloc(), lines)?;
-    print_size(rt, what, ram_size(&lines))?;
-    let mut bank = RamBank::new(&mut lines);
-    print_word(rt, "read 8388607", bank.read(8_388_607))
+    let size = ram_size(&lines);
+    try_size(rt, what, size, &mut RamBank::new(&mut lines))
 }
 
-// An EPROM bank of that many bytes: its size, and its last word.
+// An EPROM bank of that many bytes.
 fn try_eprom(rt: &HostRuntime, what: &str, length: usize) -> io::Result<()> {
     let image = make_eprom(rt.alloc(), length)?;
-    print_size(rt, what, eprom_size(&image))?;
-    let mut bank = EpromBank::new(&image);
-    print_word(rt, "read 8388607", bank.read(8_388_607))
+    try_size(rt, what, eprom_size(&image), &mut EpromBank::new(&image))
 }
 
-// A map of two RAM banks: its size, and its last word.
+// A map of two RAM banks.
 fn try_map(rt: &HostRuntime, what: &str, low: usize, high: usize) -> io::Result<()> {
     let mut low = make_ram(rt.alloc(), low)?;
     let mut high = make_ram(rt.alloc(), high)?;
     let low = RamBank::new(&mut low);
     let high = RamBank::new(&mut high);
-    print_size(rt, what, map_size(&low, &high))?;
-    let mut map = JoinedMap::new(low, high);
-    print_word(rt, "read 8388607", map.read(8_388_607))
+    let size = map_size(&low, &high);
+    try_size(rt, what, size, &mut JoinedMap::new(low, high))
 }
 
 fn main(rt: HostRuntime) -> io::Result<()> {
