@@ -159,7 +159,7 @@ fn try_ports(rt: &HostRuntime) -> io::Result<()> {
     )
 }
 
-// What the size question of a bank or a map answers, and its last word.
+// What the size question of a bank or a map answers, and a read of the last word that any port can have.
 fn try_size<P: Port>(
     rt: &HostRuntime,
     what: &str,

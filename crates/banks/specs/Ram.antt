@@ -27,7 +27,7 @@ abbrev pub RamWritten : RamBank → Store → Result (Unit {0}) Fault → RamBan
 RamWritten b w (Ok _) c = Holds b (recorded w b.lines.now) c
 RamWritten b w (Err _) c = c ≡ b
 
--- What each call does to the records; no other call changes any.
+-- What each call does to the records: only writes and outside writes change any.
 abbrev pub RamDoes : RamBank → Step → RamBank → Type 0
 RamDoes b (reads w r) c = c ≡ b
 RamDoes b (writes w r) c = RamWritten b w r c

@@ -6,7 +6,7 @@ use super::sizes::eprom_size;
 use fault::Fault;
 use port::{Port, Store, check_range, check_write};
 
-/// A bank that borrows the bytes of its words, and takes every write without a change.
+/// A bank that borrows the bytes of its words; no write that it takes changes them.
 #[derive(Drop)]
 pub struct EpromBank<'a> {
     bytes: &'a [u8],

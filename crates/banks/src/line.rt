@@ -4,7 +4,7 @@ ghost use Rattle.banks.specs.Lines.{changed};
 
 use port::Store;
 
-/// Eight words of RAM with their marks: what a line is known by on the bus.
+/// Eight words of RAM with their marks.
 #[derive(Clone, Copy, Debug, PartialEq)]
 pub struct Line {
     pub words: [u16; 8],

@@ -7,7 +7,7 @@ use super::sizes::ram_size;
 use fault::{Fault, Refusal};
 use port::{Port, Store, check_range, check_write};
 
-/// A bank that borrows its records, and changes one of them for each write.
+/// A bank that borrows its records, and changes one of them for each write to a line that is not protected.
 #[derive(Drop)]
 pub struct RamBank<'a> {
     lines: &'a mut [Line],
@@ -25,6 +25,7 @@ impl<'a> RamBank<'a> {
     /// Hands the records back, with what they hold now.
     pub fn into_lines(self) -> &'a mut [Line]
         ensures records { result.now ≡ self.entry.lines.now }
+        ensures caller { result.ghost_name ≡ self.entry.lines.ghost_name }
     {
         let lines = self.lines;
         lines
@@ -47,6 +48,7 @@ impl<'a> Port for RamBank<'a> {
 
     fn marks(&self, line: u32) -> Result<(bool, bool), Fault> {
         check_range(line, self.words() / 8, 0)?;
+        // A copy, here and below: a line lent from behind two references is not covered by the checker.
         let line = self.lines[line as usize];
         Ok((line.cacheable, line.protect))
     }

@@ -1,4 +1,4 @@
-//! Whether a bank or a map can be made of what the caller has.
+//! How many words a bank or a map of what the caller has would have, or why it has none.
 ghost use Rattle.std.specs.Prelude.{◌≡◌, ◌+◌, ◌/◌, length};
 ghost use Rattle.banks.specs.Sizes.{size_of_lines, lines_of_bytes};
 
@@ -8,7 +8,7 @@ use fault::{Fault, Refusal};
 /// The most lines of a port, which make 8,388,608 words.
 const MOST_LINES: usize = 1_048_576;
 
-/// How many words that many lines make, or why they make no port.
+/// How many words that many lines make, or why a port of them has none.
 pub fn size_of_lines(lines: usize) -> Result<u32, Fault>
     ensures { result ≡ size_of_lines lines }
 {
@@ -23,7 +23,7 @@ pub fn size_of_lines(lines: usize) -> Result<u32, Fault>
     }
 }
 
-/// How many words ports of so many words make together, or why they make no port.
+/// How many words ports of so many words make together, or why a port of both has none.
 pub fn joint_size(low: u32, high: u32) -> Result<u32, Fault>
     ensures { result ≡ size_of_lines ((low + high) / 8) }
 {

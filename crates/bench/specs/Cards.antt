@@ -1,11 +1,12 @@
 -- The bench cards: what the stages come to on a few numbers, by the definitions that their contracts cite.
 use Rattle.std.specs.Prelude.{◌≡◌, ℕ, ◌*◌, true, false, List, [], ◌∷◌, ◌++◌, Some, None, Ok, Option}
+use Rattle.std.specs.Option.{option_to_list as left}
 use Rattle.port.specs.declared.Store.{Store}
 use Rattle.port.specs.Lanes.{joined}
 use Rattle.port.specs.Memory.{State, posted, outside}
 use Rattle.port.specs.Meaning.{read_answer, settled_answer}
 use Rattle.port.specs.Steps.{Step, reads, writes}
-use Rattle.write_buffer.specs.Queues.{leaving, left}
+use Rattle.write_buffer.specs.Queues.{leaving}
 use Rattle.write_buffer.specs.Queues.{joined as queue_with}
 use Rattle.write_buffer.specs.Buffering.{sends}
 use Rattle.directory.specs.declared.marks.WayNumber.{WayNumber}

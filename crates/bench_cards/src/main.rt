@@ -1,4 +1,4 @@
-//! Tries the bench cards on real boards, and prints what comes out.
+//! Tries the bench cards on boards over the card's stages, and prints what comes out.
 #![tactic(auto)]
 
 use banks::{EpromBank, Line, RamBank};

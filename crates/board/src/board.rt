@@ -2,11 +2,11 @@
 ghost use Rattle.std.specs.Prelude.{◌≡◌, [], ◌∷◌, Err, ◌≢◌};
 ghost use Rattle.calls.specs.declared.call.Call.TheVariants.{Lock as Locks, LockedRead, LockedWrite, Unlock as Unlocks, Ask as Asks, MasterRead, MasterWrite, Give as Gives};
 ghost use Rattle.calls.specs.Calls.{cargo_of};
-ghost use Rattle.port.specs.Memory.{drained, posted};
+ghost use Rattle.port.specs.Memory.{drained, posted, floor_above};
 ghost use Rattle.port.specs.Meaning.{marks_answer, waiting_answer, write_answer, ByAnswer};
 ghost use Rattle.port.specs.Steps.{Drains};
 ghost use Rattle.book.specs.declared.answer.Mode.TheVariants.{Free};
-ghost use Rattle.book.specs.Tables.{board_floor, place_in};
+ghost use Rattle.book.specs.Tables.{place_in};
 ghost use Rattle.book.specs.Calling.{as_done, as_word, Through, Called, Cycled};
 
 use book::{Answer, Mode};
@@ -93,7 +93,7 @@ impl<P: Port> Board<P> {
 
     /// One more than the port's floor, up to 255.
     pub fn floor(&self) -> u8
-        ensures { result ≡ board_floor (P.state self.now.port).facts.floor }
+        ensures { result ≡ floor_above (P.state self.now.port).facts.floor }
     {
         self.port.floor().saturating_add(1)
     }
@@ -115,7 +115,7 @@ impl<P: Port> Board<P> {
 
     // The answer to a call that the mode turns down.
     fn refuse(&self, refusal: Refusal, place: u32) -> Result<Answer, Fault>
-        ensures { result ≡ Err (record { refusal = refusal; place = place; floor = board_floor (P.state self.now.port).facts.floor }) }
+        ensures { result ≡ Err (record { refusal = refusal; place = place; floor = floor_above (P.state self.now.port).facts.floor }) }
     {
         Err(Fault {
             refusal,

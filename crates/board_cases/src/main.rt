@@ -10,7 +10,7 @@ use std::alloc::{AllocError, Global};
 use std::io;
 use write_buffer::WriteBuffer;
 
-/// Every kind of call, taken and refused, on 128 words of which word 37 is unreadable.
+/// Every kind of call, most of them taken and refused, on 128 words of which word 37 is unreadable.
 static EVERY_KIND: [Call; 40] = [
     Call::Read(2),
     Call::Write(Store {

@@ -1,5 +1,6 @@
 -- The record of a run says what the book does.
-use Rattle.std.proofs.Common.{◌≡◌, ℕ, zero, suc, ◌≤◌, Bool, ◌⊎◌, List, [], ◌∷◌, ◌++◌, length, get_or, take, drop, Some, None, Ok, Err, Option, Result, sym, refl, ap, ◌∙◌, inl, inr, append_assoc, append-nil, arith, length-append, take-append-drop, length-take, take_at, drop_at}
+use Rattle.std.proofs.Common.{◌≡◌, ℕ, zero, suc, ◌≤◌, ◌⊎◌, List, [], ◌∷◌, ◌++◌, length, get_or, take, drop, Some, None, Ok, Err, Option, Result, sym, refl, ap, ◌∙◌, inl, inr, append_assoc, append-nil, arith, length-append, take-append-drop, length-take, take_at, drop_at}
+use Rattle.std.proofs.lemmas.List.{map-append, take-map, drop-map, length-map}
 use Rattle.fault.specs.declared.Fault.{Fault}
 use Rattle.fault.specs.declared.Refusal.{Refusal}
 use Rattle.calls.specs.declared.call.Call.{Call}
@@ -66,32 +67,14 @@ took_locks b c = took_of b c (locks_writes c) (elim (writes_or_not b.state c) [ 
 
 -- MARKED LISTS
 
-marked_append : (p : ℕ → Bool) (xs ys : List Store) → marked p (xs ++ ys) ≡ marked p xs ++ marked p ys
-marked_append p [] ys = refl
-marked_append p (x ∷ xs) ys = ap {B = List Entry} (λ r. entry_of p x ∷ r) (marked_append p xs ys)
-
-marked-take : (p : ℕ → Bool) (k : ℕ) (xs : List Store) → marked p (take k xs) ≡ take k (marked p xs)
-marked-take p zero xs = refl
-marked-take p (suc k) [] = refl
-marked-take p (suc k) (x ∷ xs) = ap {B = List Entry} (λ r. entry_of p x ∷ r) (marked-take p k xs)
-
-marked-drop : (p : ℕ → Bool) (k : ℕ) (xs : List Store) → marked p (drop k xs) ≡ drop k (marked p xs)
-marked-drop p zero xs = refl
-marked-drop p (suc k) [] = refl
-marked-drop p (suc k) (x ∷ xs) = marked-drop p k xs
-
-marked-length : (p : ℕ → Bool) (xs : List Store) → length (marked p xs) ≡ length xs
-marked-length p [] = refl
-marked-length p (x ∷ xs) = ap (λ (n : ℕ). suc n) (marked-length p xs)
-
 lined_is : (b : Book) (c : Call) → lined b.state.protected (marked b.state.protected b.state.waiting) c (answer b c) ≡ marked b.state.protected (line b c)
 lined_is b c =
     ap (λ (x : List Store). marked b.state.protected b.state.waiting ++ marked b.state.protected x) (took_posts b c)
-    ∙ sym (marked_append b.state.protected b.state.waiting (joins b c))
+    ∙ sym (map-append (entry_of b.state.protected) b.state.waiting (joins b c))
 
 dropped_is : (b : Book) (c : Call) (k : ℕ)
     → drop k (lined b.state.protected (marked b.state.protected b.state.waiting) c (answer b c)) ≡ marked b.state.protected (drop k (line b c))
-dropped_is b c k = ap (λ (x : List Entry). drop k x) (lined_is b c) ∙ sym (marked-drop b.state.protected k (line b c))
+dropped_is b c k = ap (λ (x : List Entry). drop k x) (lined_is b c) ∙ drop-map (entry_of b.state.protected) k (line b c)
 
 -- WHAT SETTLES IN THE BOOK
 
@@ -120,11 +103,11 @@ history_is b (c ∷ cs) [] = refl
 history_is b (c ∷ cs) (k ∷ ks) =
     let p = b.state.protected in
     ap (λ (x : List Store). marked p x ++ (take k (lined p (marked p b.state.waiting) c (answer b c)) ++ history p (drop k (lined p (marked p b.state.waiting) c (answer b c))) cs (answers (step b c k) cs ks) ks)) (took_masters b c)
-    ∙ ap (λ (x : List Entry). marked p (masters b c) ++ (x ++ history p (drop k (lined p (marked p b.state.waiting) c (answer b c))) cs (answers (step b c k) cs ks) ks)) (ap (λ (x : List Entry). take k x) (lined_is b c) ∙ sym (marked-take p k (line b c)))
+    ∙ ap (λ (x : List Entry). marked p (masters b c) ++ (x ++ history p (drop k (lined p (marked p b.state.waiting) c (answer b c))) cs (answers (step b c k) cs ks) ks)) (ap (λ (x : List Entry). take k x) (lined_is b c) ∙ take-map (entry_of p) k (line b c))
     ∙ ap (λ (x : List Entry). marked p (masters b c) ++ (marked p (take k (line b c)) ++ history p x cs (answers (step b c k) cs ks) ks)) (dropped_is b c k)
     ∙ ap (λ (x : List Entry). marked p (masters b c) ++ (marked p (take k (line b c)) ++ x)) (history_is (step b c k) cs ks)
-    ∙ ap (λ (x : List Entry). marked p (masters b c) ++ x) (sym (marked_append p (take k (line b c)) (settled_by (step b c k) cs ks)))
-    ∙ sym (marked_append p (masters b c) (take k (line b c) ++ settled_by (step b c k) cs ks))
+    ∙ ap (λ (x : List Entry). marked p (masters b c) ++ x) (sym (map-append (entry_of p) (take k (line b c)) (settled_by (step b c k) cs ks)))
+    ∙ sym (map-append (entry_of p) (masters b c) (take k (line b c) ++ settled_by (step b c k) cs ks))
 
 pub waits_is : (b : Book) (cs : List Call) (ks : List ℕ)
     → waits b.state.protected (marked b.state.protected b.state.waiting) cs (answers b cs ks) ks ≡ marked b.state.protected (after b cs ks).state.waiting
@@ -165,9 +148,9 @@ once_length b es (c ∷ cs) (k ∷ ks) q h =
     let p = b.state.protected in
     let l = lined p es c (answer b c) in
     let lined-now : l ≡ marked p (line b c) = ap (λ (x : List Entry). lined p x c (answer b c)) q ∙ lined_is b c in
-    let rest = once_length (step b c k) (drop k l) cs ks (ap (λ (x : List Entry). drop k x) lined-now ∙ sym (marked-drop p k (line b c))) h.1 in
+    let rest = once_length (step b c k) (drop k l) cs ks (ap (λ (x : List Entry). drop k x) lined-now ∙ drop-map (entry_of p) k (line b c)) h.1 in
     let le : k ≤ length (line b c) = within (rule b c) (length (line b c)) k h.0 in
-    let size : length l ≡ length (line b c) = ap length lined-now ∙ marked-length p (line b c) in
+    let size : length l ≡ length (line b c) = ap length lined-now ∙ length-map (line b c) (entry_of p) in
     let front : length (take k l) ≡ k = length-take k l ∙ omega arith in
     length-append (take k l) (processor_history p (drop k l) cs (answers (step b c k) cs ks) ks) ∙ omega arith
 

@@ -143,6 +143,7 @@ keeps G p made cs rs ks m q d e c =
       made = made;
       counts = ks;
       drains = d;
+      begins = e;
       calls_made = c;
       admitted = f.admitted;
       answers_are_the_books = f.answered;

@@ -7,7 +7,7 @@ use Rattle.calls.specs.declared.call.Call.TheVariants.{Read, Write as Post, Unpo
 use Rattle.port.specs.declared.Store.{Store}
 use Rattle.port.specs.Lanes.{joined}
 use Rattle.port.specs.Memory.{Memory, State, line_of, stored, applied, seen}
-use Rattle.port.proofs.Settling.{applied-append}
+use Rattle.port.proofs.Settling.{applied-append, applied_readable}
 use Rattle.book.specs.declared.answer.Mode.{Mode}
 use Rattle.book.specs.declared.answer.Mode.TheVariants.{Free, Locked, Granted}
 use Rattle.book.specs.declared.answer.Answer.{Answer}
@@ -34,10 +34,6 @@ applied_local p q a [] m n e h = h
 applied_local p q a (w ∷ ws) m n e h =
     applied_local p q a ws (stored p w m) (stored q w n) e
     (ap₂ (λ (x : Bool) (v : ℕ). cond (eqb a w.word) (cond x v (joined w.lanes v w.value)) v) e h)
-
-pub applied_readable : (p : ℕ → Bool) (ws : List Store) (m : Memory) → (applied p ws m).readable ≡ m.readable
-applied_readable p [] m = refl
-applied_readable p (w ∷ ws) m = applied_readable p ws (stored p w m)
 
 -- What is seen after a call does not depend on what settled.
 seen_step : (b : Book) (c : Call) (k : ℕ) → masters b c ≡ [] → seen (step b c k).state ≡ applied b.state.protected (joins b c) (seen b.state)

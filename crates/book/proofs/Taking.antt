@@ -1,8 +1,9 @@
 -- The port's promises, as one call of the board.
 use Rattle.std.proofs.Common.{◌≡◌, ℕ, Bool, true, false, cond, ltb, [], ◌∷◌, ◌++◌, length, Some, None, Ok, Err, Option, Result, sym, refl, ap, ◌∙◌, subst, append-nil, arith}
+use Rattle.std.specs.Result.{result_and}
 use Rattle.fault.specs.declared.Fault.{Fault}
 use Rattle.fault.specs.declared.Refusal.{Refusal}
-use Rattle.fault.specs.declared.Refusal.TheVariants.{PastEnd, BadLanes, Unreadable, Locked as IsLocked, Granted as IsGranted, NotLocked, NotGranted, UnfitSize, ListLength, ListWord}
+use Rattle.fault.specs.declared.Refusal.TheVariants.{PastEnd, BadLanes, Unreadable}
 use Rattle.calls.specs.declared.call.Call.{Call}
 use Rattle.calls.specs.declared.call.Call.TheVariants.{Read, Write as Post, Advance, Lock, MasterWrite, Snoop, Flush, Unposted, LockedWrite}
 use Rattle.calls.specs.declared.call.Cargo.{Cargo}
@@ -11,7 +12,7 @@ use Rattle.calls.specs.Calls.{cargo_of}
 use Rattle.port.specs.declared.Store.{Store}
 use Rattle.port.specs.declared.Port.{Ghosts}
 use Rattle.port.specs.Memory.{State, seen, posted, drained, outside}
-use Rattle.port.specs.Meaning.{laned, unreadable, past_end, bad_lanes, then_ok, read_answer, write_answer, snoop_answer, Settles, Advances, ByAnswer, KeptAt, Kept as PortKept}
+use Rattle.port.specs.Meaning.{laned, unreadable, past_end, bad_lanes, read_answer, write_answer, snoop_answer, Settles, Advances, ByAnswer, Kept}
 use Rattle.port.specs.Steps.{reads, writes, advances, outsides, snoops, flushes, done, then, Drains}
 use Rattle.port.proofs.Settling.{posted_none}
 use Rattle.book.specs.declared.answer.Mode.{Mode}
@@ -20,7 +21,7 @@ use Rattle.book.specs.declared.answer.Answer.{Answer}
 use Rattle.book.specs.declared.answer.Answer.TheVariants.{Done, Word}
 use Rattle.book.specs.Tables.{stop, fits, in_range, or_else, refusal, place_in, fault_of, if_taken, posts, masters_writes, goes_to, none, all, settles_by}
 use Rattle.book.specs.Book.{Book, book_of, settle, mastered, Admits, says, unless, told}
-use Rattle.book.specs.Calling.{as_done, as_word, Through, Makes, Reaches, Kept, Called}
+use Rattle.book.specs.Calling.{as_done, as_word, Through, Makes, Reaches, Called}
 use Rattle.book.proofs.Counts.{settle_none, settle_all, counted, Landed, advanced}
 
 -- The book's step and rule, at a refusal that is still to be told.
@@ -33,21 +34,9 @@ AllowedBy o s c k = Admits (if_taken o (settles_by c) none) (length (s.waiting +
 reaches : (o : Option Refusal) (X Y : Type 0) → o ≡ None → X → Reaches o X Y
 reaches o X Y e x = subst (λ (o : Option Refusal). Reaches o X Y) (sym e) x
 
-kept_at : {P : Type 0} (x : Refusal) (p q : P) → q ≡ p → KeptAt x (q ≡ p)
-kept_at PastEnd p q e = e
-kept_at BadLanes p q e = e
-kept_at Unreadable p q e = tt
-kept_at IsLocked p q e = e
-kept_at IsGranted p q e = e
-kept_at NotLocked p q e = e
-kept_at NotGranted p q e = e
-kept_at UnfitSize p q e = e
-kept_at ListLength p q e = e
-kept_at ListWord p q e = e
-
 kept_same : {P : Type 0} (r : Result Answer Fault) (p q : P) → q ≡ p → Kept r p q
 kept_same (Ok a) p q e = tt
-kept_same (Err fault) p q e = kept_at fault.refusal p q e
+kept_same (Err fault) p q e = λ _. e
 
 -- A call that is taken.
 pub taken : {P : Type 0} (G : Ghosts P) (m : Mode) (p : P) (c : Call) (r : Result Answer Fault) (q : P)
@@ -85,26 +74,26 @@ told_read : (b : Bool) (w v floor : ℕ) → as_word (cond b (Ok v) (Err (unread
 told_read true w v floor = refl
 told_read false w v floor = refl
 
-kept_read : {P : Type 0} (r : Result ℕ Fault) (p q : P) → PortKept r p q → Kept (as_word r) p q
+kept_read : {P : Type 0} (r : Result ℕ Fault) (p q : P) → Kept r p q → Kept (as_word r) p q
 kept_read (Ok v) p q k = k
 kept_read (Err fault) p q k = k
 
 pub read_called : {P : Type 0} (G : Ghosts P) (m : Mode) (p : P) (w : ℕ) (r : Result ℕ Fault) (x : Result Answer Fault) (q : P)
-    → stop m (Read w) ≡ None → r ≡ read_answer (G.state p) w → x ≡ as_word r → Settles (G.state p) (G.state q) → PortKept r p q → G.does p (reads w r) q
+    → stop m (Read w) ≡ None → r ≡ read_answer (G.state p) w → x ≡ as_word r → Settles (G.state p) (G.state q) → Kept r p q → G.does p (reads w r) q
     → Called G m p (Read w) x m q
 read_called G m p w r x q e a b h k d = go (ltb w (G.state p).facts.words) refl
   where
     calls : Makes G (Read w) p q
     calls = then (subst (λ (y : Result ℕ Fault). G.does p (reads w y) q) a d) done
 
-    told_at : (t : Bool) → ltb w (G.state p).facts.words ≡ t → r ≡ then_ok {X = Unit {0}} (cond t (Ok tt) (Err (past_end w (G.state p).facts.floor))) (cond ((seen (G.state p)).readable w) (Ok ((seen (G.state p)).word w)) (Err (unreadable w)))
-    told_at t f = a ∙ ap (λ (y : Bool). then_ok {X = Unit {0}} (cond y (Ok tt) (Err (past_end w (G.state p).facts.floor))) (cond ((seen (G.state p)).readable w) (Ok ((seen (G.state p)).word w)) (Err (unreadable w)))) f
+    told_at : (t : Bool) → ltb w (G.state p).facts.words ≡ t → r ≡ result_and {T = Unit {0}} (cond t (Ok tt) (Err (past_end w (G.state p).facts.floor))) (cond ((seen (G.state p)).readable w) (Ok ((seen (G.state p)).word w)) (Err (unreadable w)))
+    told_at t f = a ∙ ap (λ (y : Bool). result_and {T = Unit {0}} (cond y (Ok tt) (Err (past_end w (G.state p).facts.floor))) (cond ((seen (G.state p)).readable w) (Ok ((seen (G.state p)).word w)) (Err (unreadable w)))) f
 
     kept : Kept x p q
     kept = subst (λ (y : Result Answer Fault). Kept y p q) (sym b) (kept_read r p q k)
 
     same : r ≡ Err (past_end w (G.state p).facts.floor) → q ≡ p
-    same f = subst (λ (y : Result ℕ Fault). PortKept y p q) f k
+    same f = subst (λ (y : Result ℕ Fault). Kept y p q) f k (λ n. absurd (cc))
 
     lands : Landed (Read w) (G.state p) (G.state q)
     lands =
@@ -129,7 +118,7 @@ pub data Agree (floor : ℕ) (c : Call) (o : Option Refusal) (r : Result (Unit {
 
 agree_store : (n floor : ℕ) (c : Call) (s : Store) (x y : Bool) → cargo_of c ≡ OfStore s
     → Agree floor c (or_else (cond x None (Some PastEnd)) (cond y None (Some BadLanes)))
-    (then_ok {X = Unit {0}} (cond x (Ok tt) (Err (past_end s.word floor))) (cond y (Ok tt) (Err (bad_lanes s.word floor))))
+    (result_and {T = Unit {0}} (cond x (Ok tt) (Err (past_end s.word floor))) (cond y (Ok tt) (Err (bad_lanes s.word floor))))
 agree_store n floor c s true true e = both_take refl refl
 agree_store n floor c s true false e = both_refuse BadLanes refl (ap (λ (g : Cargo). Err (bad_lanes (place_in g) floor)) (sym e))
 agree_store n floor c s false y e = both_refuse PastEnd refl (ap (λ (g : Cargo). Err (past_end (place_in g) floor)) (sym e))

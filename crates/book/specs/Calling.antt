@@ -6,7 +6,7 @@ use Rattle.calls.specs.declared.call.Call.{Call}
 use Rattle.calls.specs.declared.call.Call.TheVariants.{Read, Write as Post, Unposted, Advance, Lock, LockedRead, LockedWrite, Unlock, Ask, MasterRead, MasterWrite, Give, Snoop, Flush}
 use Rattle.port.specs.declared.Store.{Store}
 use Rattle.port.specs.declared.Port.{Ghosts}
-use Rattle.port.specs.Meaning.{read_answer, write_answer, snoop_answer, ByAnswer, KeptAt}
+use Rattle.port.specs.Meaning.{read_answer, write_answer, snoop_answer, ByAnswer, Kept}
 use Rattle.port.specs.Steps.{reads, writes, advances, outsides, snoops, flushes, Chain, Drains}
 use Rattle.book.specs.declared.answer.Mode.{Mode}
 use Rattle.book.specs.declared.answer.Answer.{Answer}
@@ -51,11 +51,6 @@ abbrev pub Reaches : Option Refusal → Type 0 → Type 0 → Type 0
 Reaches None calls same = calls
 Reaches (Some r) calls same = same
 
--- A refused call leaves the whole port as it was, but for a word found unreadable.
-abbrev pub Kept : {P : Type 0} → Result Answer Fault → P → P → Type 0
-Kept (Ok a) p q = Unit {0}
-Kept (Err fault) p q = KeptAt fault.refusal (q ≡ p)
-
 -- One call, from a board in mode m on the port p to one in mode n on the port q.
 pub record Called {P : Type 0} (G : Ghosts P) (m : Mode) (p : P) (c : Call) (r : Result Answer Fault) (n : Mode) (q : P) : Type 0 where
   -- how many writes settled, the one thing that is not decided here
@@ -64,6 +59,7 @@ pub record Called {P : Type 0} (G : Ghosts P) (m : Mode) (p : P) (c : Call) (r :
   pub answered : r ≡ answer (book_of m (G.state p)) c
   pub left : book_of n (G.state q) ≡ step (book_of m (G.state p)) c count
   pub made : Reaches (stop m c) (Makes G c p q) (q ≡ p)
+  -- refused, the whole port is as it was, but for a word found unreadable
   pub kept : Kept r p q
 
 -- Three calls, one after another: the first hands out a token, the second uses it and gives the answer, the third spends it.

@@ -6,7 +6,7 @@ use Rattle.calls.specs.declared.call.Call.{Call}
 use Rattle.calls.specs.declared.call.Call.TheVariants.{Read, LockedRead, Flush}
 use Rattle.port.specs.Lanes.{Lane, byte, covers}
 use Rattle.port.specs.declared.Port.{Ghosts}
-use Rattle.port.specs.Memory.{State, seen, applied, line_of}
+use Rattle.port.specs.Memory.{State, seen, applied, drained, line_of}
 use Rattle.port.specs.Steps.{Drains}
 use Rattle.book.specs.declared.answer.Mode.{Mode}
 use Rattle.book.specs.declared.answer.Mode.TheVariants.{Free, Locked}
@@ -96,6 +96,8 @@ pub record NeverAnOldDigit {P : Type 0} (G : Ghosts P) (p : P) (cs : List Call) 
   pub made : P
   pub counts : List ℕ
   pub drains : Drains G.state G.does p made
+  -- nothing waits then, and settled memory is what was seen before
+  pub begins : G.state made ≡ drained (G.state p)
   pub calls_made : CallsMade G Free made cs rs counts m q
   pub admitted : Admitted (first (G.state p)) cs counts
   pub answers_are_the_books : rs ≡ answers (first (G.state p)) cs counts

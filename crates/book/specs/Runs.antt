@@ -1,5 +1,5 @@
 -- Many calls one after another, and the record that they leave: the calls, their answers, and how many writes settled at each.
-use Rattle.std.specs.Prelude.{◌≡◌, ℕ, ◌+◌, Bool, List, [], ◌∷◌, ◌++◌, take, drop, Ok, Err, Result}
+use Rattle.std.specs.Prelude.{◌≡◌, ℕ, ◌+◌, Bool, List, [], ◌∷◌, ◌++◌, map, take, drop, Ok, Err, Result}
 use Rattle.fault.specs.declared.Fault.{Fault}
 use Rattle.fault.specs.Numbers.{number_of}
 use Rattle.calls.specs.declared.call.Call.{Call}
@@ -45,8 +45,7 @@ abbrev pub entry_of : (ℕ → Bool) → Store → Entry
 entry_of p w = record { write = w; protected = p (line_of w.word) }
 
 abbrev pub marked : (ℕ → Bool) → List Store → List Entry
-marked p [] = []
-marked p (w ∷ ws) = entry_of p w ∷ marked p ws
+marked p ws = map (entry_of p) ws
 
 -- The line es of waiting writes once the call's own has joined it.
 abbrev pub lined : (ℕ → Bool) → List Entry → Call → Result Answer Fault → List Entry
@@ -90,7 +89,7 @@ Quiet [] rs = Unit {0}
 Quiet (c ∷ cs) [] = Unit {0}
 Quiet (c ∷ cs) (r ∷ rs) = (if_ok r (masters_writes c) ≡ []) × Quiet cs rs
 
--- The write of the holder of the lock that a call brings.
+-- The write that a call makes for the holder of the lock.
 abbrev pub locks_writes : Call → List Store
 locks_writes (Read w) = []
 locks_writes (Post s) = []

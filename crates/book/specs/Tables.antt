@@ -75,18 +75,15 @@ place_in Nothing = 0
 place_in (OfWord w) = w
 place_in (OfStore s) = s.word
 
-abbrev pub board_floor : ℕ → ℕ
-board_floor floor = floor_above floor
-
 -- The board tells what its mode refuses, its port what is past the end or of no known lanes, a bank what cannot be read.
 abbrev pub floor_for : ℕ → Refusal → ℕ
 floor_for floor PastEnd = floor
 floor_for floor BadLanes = floor
 floor_for floor Unreadable = 0
-floor_for floor IsLocked = board_floor floor
-floor_for floor IsGranted = board_floor floor
-floor_for floor NotLocked = board_floor floor
-floor_for floor NotGranted = board_floor floor
+floor_for floor IsLocked = floor_above floor
+floor_for floor IsGranted = floor_above floor
+floor_for floor NotLocked = floor_above floor
+floor_for floor NotGranted = floor_above floor
 floor_for floor UnfitSize = 0
 floor_for floor ListLength = 0
 floor_for floor ListWord = 0

@@ -1,11 +1,13 @@
 -- The calls of a cache as a port, over plain values.
 use Rattle.std.proofs.Common.{◌≡◌, ℕ, zero, suc, ◌%◌, ◌<◌, ◌≤◌, true, false, ◌⊎◌, List, [], ◌∷◌, ◌++◌, length, Some, None, Ok, Err, Option, Result, sym, refl, ap, ◌∙◌, subst, ap₂, inl, inr, arith}
+use Rattle.std.specs.Option.{option_map_or}
+use Rattle.std.specs.Result.{result_and}
 use Rattle.std.proofs.lemmas.Bool.{cond-true, cond-false}
 use Rattle.fault.specs.declared.Fault.{Fault}
 use Rattle.port.specs.declared.Port.{Ghosts}
 use Rattle.port.specs.declared.Store.{Store}
 use Rattle.port.specs.Memory.{State, posted, outside, raised}
-use Rattle.port.specs.Meaning.{Settles, Advances, ByAnswer, read_answer, write_answer, writable, then_ok, unreadable}
+use Rattle.port.specs.Meaning.{Settles, Advances, ByAnswer, read_answer, write_answer, writable, unreadable}
 use Rattle.port.specs.Steps.{Step, reads, advances, Chain, done, then}
 use Rattle.port.proofs.Settling.{settles_then, settles_under, settles_raised, settles_length}
 use Rattle.port.proofs.Checking.{Answer, InRange, as_ok, in_ok}
@@ -15,7 +17,7 @@ use Rattle.directory.specs.Dirs.{Dir, line_of, found}
 use Rattle.directory.specs.Ticks.{next_word, stored}
 use Rattle.cache.specs.declared.cache.Cache.{Cache}
 use Rattle.cache_tables.specs.Showing.{Shown, shown, reading}
-use Rattle.cache_tables.specs.Rules.{Model, Turn, turn, idle, if_some, stowed, fetched, fetch_calls, fetch_turn, finished_of, finished, finish_calls, finish_turn, buffered_of, hit, touched_by, begun, read_after, read_turn, cleared, dropped, written, fills_open, ready_turn, advance_turn}
+use Rattle.cache_tables.specs.Rules.{Model, Turn, turn, idle, stowed, fetched, fetch_calls, fetch_turn, finished_of, finished, finish_calls, finish_turn, buffered_of, hit, touched_by, begun, read_after, read_turn, cleared, dropped, written, fills_open, ready_turn, advance_turn}
 use Rattle.cache_tables.specs.Coherence.{Sees, Coherent}
 use Rattle.cache.specs.Doing.{tables_of, TakesTurn}
 use Rattle.cache_tables.proofs.Fetching.{shown_kept, read_there, fetch_inside, fetch_ok, fetch_err, fetch_chain}
@@ -68,23 +70,23 @@ pub reading_before : (s t : State) (w : ℕ) (r : Result ℕ Fault) → Settles 
 reading_before s t w r a e = e ∙ ap (λ (v : Shown). reading v w) (shown_kept s t a)
 
 pub told_above : (s : State) (w : ℕ) (r : Result ℕ Fault) → InRange s w → r ≡ reading (shown s) w → r ≡ read_answer (raised s) w
-told_above s w r h e = e ∙ sym (ap (λ (x : Result (Unit {0}) Fault). then_ok x (reading (shown s) w)) h.own)
+told_above s w r h e = e ∙ sym (ap (λ (x : Result (Unit {0}) Fault). result_and x (reading (shown s) w)) h.own)
 
 -- ---- the turns of a read
 
 module _ (v : Shown) (t : Model) (w : ℕ) where
   abbrev late : Option ℕ → Turn
-  late o = if_some o (λ _. turn (touched_by (finished v t) w) (finish_calls v t)) (turn (begun v (finished v t).dir w) (finish_calls v t ++ (reads w (reading v w) ∷ [])))
+  late o = option_map_or (λ _. turn (touched_by (finished v t) w) (finish_calls v t)) o (turn (begun v (finished v t).dir w) (finish_calls v t ++ (reads w (reading v w) ∷ [])))
 
   abbrev early : Option ℕ → Turn
-  early o = if_some o (λ _. turn (touched_by t w) []) (read_after v (finish_turn v t) w)
+  early o = option_map_or (λ _. turn (touched_by t w) []) o (read_after v (finish_turn v t) w)
 
   pub turn_buffered : (x : ℕ) → Some x ≡ buffered_of t.fill w → read_turn v t w ≡ turn t []
-  turn_buffered x e = ap (λ (o : Option ℕ). if_some o (λ _. turn t []) (early (hit t.dir w))) (sym e)
+  turn_buffered x e = ap (λ (o : Option ℕ). option_map_or (λ _. turn t []) o (early (hit t.dir w))) (sym e)
 
   module _ (nb : None ≡ buffered_of t.fill w) where
     past : read_turn v t w ≡ early (hit t.dir w)
-    past = ap (λ (o : Option ℕ). if_some o (λ _. turn t []) (early (hit t.dir w))) (sym nb)
+    past = ap (λ (o : Option ℕ). option_map_or (λ _. turn t []) o (early (hit t.dir w))) (sym nb)
 
     pub turn_hit : (x : ℕ) → Some x ≡ hit t.dir w → read_turn v t w ≡ turn (touched_by t w) []
     turn_hit x e = past ∙ ap early (sym e)

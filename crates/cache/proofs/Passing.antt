@@ -1,5 +1,6 @@
 -- Whatever is no read goes through a cache.
 use Rattle.std.proofs.Common.{◌≡◌, ℕ, zero, suc, Bool, true, false, cond, List, [], ◌∷◌, ◌++◌, Some, None, Ok, Err, Option, Result, sym, refl, ap, ◌∙◌, subst, ap₂, append_assoc}
+use Rattle.std.specs.Option.{option_map_or}
 use Rattle.fault.specs.declared.Fault.{Fault}
 use Rattle.port.specs.declared.Port.{Ghosts}
 use Rattle.port.specs.Meaning.{within, ByAnswer}
@@ -8,7 +9,7 @@ use Rattle.directory.specs.declared.fills.Fill.{Fill}
 use Rattle.directory.specs.Dirs.{line_of}
 use Rattle.cache.specs.declared.cache.Cache.{Cache}
 use Rattle.cache_tables.specs.Showing.{Shown, reading}
-use Rattle.cache_tables.specs.Rules.{Model, Turn, turn, if_some, fetched, fetch_calls, lacking, fetches, finished, finish_calls, finish_turn, buffered_of, hit, touched_by, begun, read_after, read_turn, fills_open, ready_turn}
+use Rattle.cache_tables.specs.Rules.{Model, Turn, turn, fetched, fetch_calls, lacking, fetches, finished, finish_calls, finish_turn, buffered_of, hit, touched_by, begun, read_after, read_turn, fills_open, ready_turn}
 use Rattle.cache.specs.Doing.{shows_below, tables_of, TakesTurn, Does}
 use Rattle.cache.specs.Runs.{passed_by, passed, Below, OnlyReadsAreKept}
 use Rattle.port.proofs.Chains.{chain_append}
@@ -37,15 +38,15 @@ finish_reads v t = fetches_read (lacking t.fill) v t
 read_reads : (v : Shown) (t : Model) (w : ℕ) → passed (read_turn v t w).calls ≡ []
 read_reads v t w = buffered (buffered_of t.fill w)
   where
-    late : (o : Option ℕ) → passed (if_some o (λ _. turn (touched_by (finished v t) w) (finish_calls v t)) (turn (begun v (finished v t).dir w) (finish_calls v t ++ (reads w (reading v w) ∷ [])))).calls ≡ []
+    late : (o : Option ℕ) → passed (option_map_or (λ _. turn (touched_by (finished v t) w) (finish_calls v t)) o (turn (begun v (finished v t).dir w) (finish_calls v t ++ (reads w (reading v w) ∷ [])))).calls ≡ []
     late None = after_reads (finish_calls v t) (reads w (reading v w) ∷ []) (finish_reads v t)
     late (Some x) = finish_reads v t
 
-    early : (o : Option ℕ) → passed (if_some o (λ _. turn (touched_by t w) []) (read_after v (finish_turn v t) w)).calls ≡ []
+    early : (o : Option ℕ) → passed (option_map_or (λ _. turn (touched_by t w) []) o (read_after v (finish_turn v t) w)).calls ≡ []
     early None = late (hit (finished v t).dir w)
     early (Some x) = refl
 
-    buffered : (o : Option ℕ) → passed (if_some o (λ _. turn t []) (if_some (hit t.dir w) (λ _. turn (touched_by t w) []) (read_after v (finish_turn v t) w))).calls ≡ []
+    buffered : (o : Option ℕ) → passed (option_map_or (λ _. turn t []) o (option_map_or (λ _. turn (touched_by t w) []) (hit t.dir w) (read_after v (finish_turn v t) w))).calls ≡ []
     buffered None = early (hit t.dir w)
     buffered (Some x) = refl
 

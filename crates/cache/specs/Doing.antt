@@ -1,5 +1,6 @@
 -- What a cache means, and what its calls do: to its tables, and by which calls to the port below.
-use Rattle.std.specs.Prelude.{◌≡◌, ℕ, Ok, Err, Result}
+use Rattle.std.specs.Prelude.{◌≡◌, ℕ, Result}
+use Rattle.std.specs.Option.{ok_or}
 use Rattle.fault.specs.declared.Fault.{Fault}
 use Rattle.port.specs.declared.Port.{Ghosts}
 use Rattle.port.specs.Meaning.{past_end, within, ByAnswer}
@@ -9,7 +10,7 @@ use Rattle.directory.specs.Dirs.{Dir}
 use Rattle.directory.specs.View.{inspected}
 use Rattle.cache.specs.declared.cache.Cache.{Cache}
 use Rattle.cache_tables.specs.Showing.{Shown, shown}
-use Rattle.cache_tables.specs.Rules.{Model, Turn, model, if_some, read_turn, write_turn, advance_turn, snoop_turn, outside_turn, flush_turn}
+use Rattle.cache_tables.specs.Rules.{Model, Turn, model, read_turn, write_turn, advance_turn, snoop_turn, outside_turn, flush_turn}
 
 -- What the port below shows, and the tables.
 abbrev pub shows_below : {P : Type 0} {G : Ghosts P} → Cache P G → Shown
@@ -20,7 +21,7 @@ tables_of c = model c.tables
 
 -- What is told of a way; where there is no such set or way the question is refused as past the end, at the set.
 abbrev pub inspect_answer : Dir → ℕ → ℕ → ℕ → Result WayState Fault
-inspect_answer d floor set way = if_some (inspected d set way) (λ told. Ok told) (Err (past_end set floor))
+inspect_answer d floor set way = ok_or (inspected d set way) (past_end set floor)
 
 -- The tables become what the turn says, and the port below gets its calls, in order and no others.
 pub record TakesTurn {P : Type 0} {G : Ghosts P} (t : Turn) (b c : Cache P G) : Type 0 where

@@ -33,7 +33,7 @@ impl<P: Port> Cache<P> {
         below
     }
 
-    // Each of these four says what it did below and to the tables; that what was read settled some writes is one clause of each.
+    // Each of these four says what it did below and to the tables; that some writes may have settled below is one clause of each.
 
     // Fetches the next word of the line under fill, if there is one.
     fn fetch_one(&mut self)

@@ -4,7 +4,7 @@ use Rattle.std.proofs.lemmas.Bool.{ne_eqb, eqb-true, eq-eqb, eqb-false, both_way
 use Rattle.port.specs.declared.Store.{Store}
 use Rattle.port.specs.Lanes.{joined}
 use Rattle.port.specs.Memory.{State, Memory, stored, applied, posted, outside}
-use Rattle.port.proofs.Settling.{applied-append}
+use Rattle.port.proofs.Settling.{applied-append, applied_readable}
 use Rattle.directory.specs.declared.marks.WayNumber.{WayNumber}
 use Rattle.directory.specs.declared.sets.Way.{Way}
 use Rattle.directory.specs.declared.fills.Fill.{Fill}
@@ -134,10 +134,6 @@ coherent_alike v u t e c a b = record {
 }
 
 -- ---- a write from outside
-
-applied_readable : (p : ℕ → Bool) (ws : List Store) (m : Memory) → (applied p ws m).readable ≡ m.readable
-applied_readable p [] m = refl
-applied_readable p (w ∷ ws) m = applied_readable p ws (stored p w m)
 
 -- what becomes of a word depends on that word alone
 applied_at : (p : ℕ → Bool) (ws : List Store) (m n : Memory) (a : ℕ) → m.word a ≡ n.word a → (applied p ws m).word a ≡ (applied p ws n).word a

@@ -1,10 +1,11 @@
 -- Words fetched one after another, until no fill is under way.
 use Rattle.std.proofs.Common.{◌≡◌, ℕ, zero, suc, ◌-◌, ◌<◌, Bool, true, false, cond, ltb, List, [], ◌∷◌, ◌++◌, is_some, Some, None, Ok, Err, Option, Result, sym, refl, ap, ◌∙◌, subst, ap₂, arith}
+use Rattle.std.specs.Result.{result_and}
 use lib.Count.{ones}
 use Rattle.std.proofs.lemmas.Bool.{lt-ltb, cond-true, both_ways}
 use Rattle.fault.specs.declared.Fault.{Fault}
 use Rattle.port.specs.Memory.{State}
-use Rattle.port.specs.Meaning.{Settles, read_answer, then_ok, within, unreadable, past_end}
+use Rattle.port.specs.Meaning.{Settles, read_answer, within, unreadable, past_end}
 use Rattle.port.specs.Steps.{Step, reads, Chain, done, then}
 use Rattle.port.proofs.Settling.{seen_kept}
 use Rattle.port.proofs.Chains.{chain_append}
@@ -27,7 +28,7 @@ move s t m a c = subst (λ (v : Shown). Coherent v m) (sym (shown_kept s t a)) c
 pub read_there : (s : State) (w : ℕ) (r : Result ℕ Fault) → w < s.facts.words → r ≡ read_answer s w → r ≡ reading (shown s) w
 read_there s w r h e =
     let there : within w s.facts.words s.facts.floor ≡ Ok tt = cond-true (ltb w s.facts.words) (Ok tt) (Err (past_end w s.facts.floor)) (lt-ltb w s.facts.words h) in
-    e ∙ ap (λ (x : Result (Unit {0}) Fault). then_ok x (reading (shown s) w)) there
+    e ∙ ap (λ (x : Result (Unit {0}) Fault). result_and x (reading (shown s) w)) there
 
 pub read_ok : (v : Shown) (w x : ℕ) → Ok x ≡ reading v w → Sees v w x
 read_ok v w x = by_test (v.readable w)

@@ -1,17 +1,23 @@
 -- The laws of the rules.
-use Rattle.std.proofs.Common.{◌≡◌, ℕ, zero, suc, ◌≤◌, Bool, true, false, cond, ◌&&◌, Some, None, Option, refl, ap, ◌∙◌, arith}
+use Rattle.std.proofs.Common.{◌≡◌, ℕ, zero, suc, ◌≤◌, Bool, true, false, cond, ◌&&◌, ◌≢◌, List, [], ◌∷◌, ◌++◌, Some, None, Option, refl, ap, ◌∙◌, subst, arith, if◌then◌else◌}
+use Rattle.std.specs.Option.{option_map_or}
+use Rattle.port.specs.declared.Store.{Store}
+use Rattle.port.specs.Steps.{reads}
 use Rattle.directory.specs.declared.marks.WayNumber.{WayNumber}
+use Rattle.directory.specs.declared.sets.Way.{Way}
 use Rattle.directory.specs.declared.fills.Fill.{Fill}
-use Rattle.directory.specs.Dirs.{Dir, line_of, found, installed, dropped_of}
+use Rattle.directory.specs.Touch.{victim_of}
+use Rattle.directory.specs.Dirs.{Dir, line_of, set_of, touched, found, installed, dropped_of, changed}
 use Rattle.directory.specs.Ticks.{next_word, complete, stored}
-use Rattle.directory.proofs.Apart.{drop_forgets}
-use Rattle.cache_tables.specs.Showing.{Shown}
-use Rattle.cache_tables.specs.Rules.{Model, idle, stowed, fetched_of, finished_of, lacking, begun_fill, begun, dropped}
+use Rattle.directory.proofs.Apart.{install_keeps, drop_forgets, change_moves_none}
+use Rattle.directory.proofs.Sparing.{touch_spares}
+use Rattle.cache_tables.specs.Showing.{Shown, reading, line_seen, whole}
+use Rattle.cache_tables.specs.Rules.{Model, turn, idle, stowed, fetched_of, finished_of, finished, finish_calls, finish_turn, lacking, buffered_of, hit, touched_of, touched_by, begun_fill, begun, read_after, read_turn, dropped, changed_word, changed_way, changed_of, written, ready_turn}
 use Rattle.cache_tables.specs.Coherence.{Coherent}
-use Rattle.cache_tables.specs.Laws.{NamedAtTheMiss, SameLineAndWay, LineIsGone, fetched_times, CachingIsLawful}
+use Rattle.cache_tables.specs.Laws.{NamedAtTheMiss, SameLineAndWay, HolderIsSpared, LineIsGone, fetched_times, CachingIsLawful}
 use Rattle.cache_tables.proofs.Keeping.{fetch_keeps, fetch_finishes}
 use Rattle.cache_tables.proofs.Fetching.{shown_kept, fetch_falls}
-use Rattle.cache_tables.proofs.Reading.{buffered_sees, hit_sees}
+use Rattle.cache_tables.proofs.Reading.{buffered_sees, hit_sees, none_found}
 use Rattle.cache_tables.proofs.Changing.{left_some}
 
 named : (v : Shown) (d : Dir) (w : ℕ) (b : Fill) → (begun v d w).fill ≡ Some b → NamedAtTheMiss v d w b
@@ -59,6 +65,94 @@ gone v t line c = record {
     by_answer None = refl
     by_answer (Some k) = refl
 
+-- ---- the way named at the miss
+
+installs_there : (v : Shown) (d : Dir) (b : Fill) (words : List ℕ) → Coherent v (record { dir = d; fill = Some b }) → found (installed d b.line b.way b.protect words) b.line ≡ Some b.way
+installs_there v d b words c = (install_keeps d b.line b.way b.protect words c.apart (c.fill b refl).absent).new
+
+lands : (v : Shown) (d : Dir) (f : Option Fill) (b : Fill) → Coherent v (record { dir = d; fill = f }) → f ≡ Some b
+    → v.readable (next_word b) ≡ true → (fetched_of v d f).fill ≡ None → found (fetched_of v d f).dir b.line ≡ Some b.way
+lands v d None b c is r e = absurd (cc)
+lands v d (Some a) b c is r e =
+    let same : a ≡ b = cc in
+    subst (λ (x : Fill). found (fetched_of v d (Some a)).dir x.line ≡ Some x.way) same (by_read (v.readable (next_word a)) (ap (λ (x : Fill). v.readable (next_word x)) same ∙ r) e)
+  where
+    n : Fill
+    n = stored a (v.word (next_word a))
+
+    by_full : (full : Bool) → (cond full (idle (installed d n.line n.way n.protect n.words)) (record { dir = d; fill = Some n })).fill ≡ None
+        → found (cond full (idle (installed d n.line n.way n.protect n.words)) (record { dir = d; fill = Some n })).dir a.line ≡ Some a.way
+    by_full true e = installs_there v d a n.words c
+    by_full false e = absurd (cc)
+
+    by_read : (t : Bool) → t ≡ true → (cond t (stowed d n) (idle d)).fill ≡ None → found (cond t (stowed d n) (idle d)).dir a.line ≡ Some a.way
+    by_read true q e = by_full (complete n) e
+    by_read false q e = absurd (cc)
+
+ends_there : (v : Shown) (d : Dir) (f : Option Fill) (b : Fill) → Coherent v (record { dir = d; fill = f }) → f ≡ Some b
+    → whole v b.line ≡ true → found (finished_of v d f).dir b.line ≡ Some b.way
+ends_there v d None b c is r = absurd (cc)
+ends_there v d (Some a) b c is r =
+    let same : a ≡ b = cc in
+    subst (λ (x : Fill). found (finished_of v d (Some a)).dir x.line ≡ Some x.way) same (by_whole (whole v a.line) (ap (λ (x : Fill). whole v x.line) same ∙ r))
+  where
+    by_whole : (t : Bool) → t ≡ true → found (cond t (installed d a.line a.way a.protect (line_seen v a.line)) d) a.line ≡ Some a.way
+    by_whole true q = installs_there v d a (line_seen v a.line) c
+    by_whole false q = absurd (cc)
+
+-- ---- the way that holds a line that was read or written
+
+touch_spares_it : (t : Model) (w : ℕ) (o : Option WayNumber) → found t.dir (line_of w) ≡ o → HolderIsSpared (touched_of t w o) w
+touch_spares_it t w None e k h = absurd (cc)
+touch_spares_it t w (Some j) e k h =
+    let same : j ≡ k = cc in
+    subst (λ (n : WayNumber). victim_of ((touched t.dir (set_of (line_of w)) j).marks (set_of (line_of w))) ≢ n) same (touch_spares t.dir (set_of (line_of w)) j)
+
+module _ (v : Shown) (t : Model) (w : ℕ) where
+  begun_dir : (d : Dir) → (begun v d w).dir ≡ d
+  begun_dir d = by_test (v.readable w && v.cacheable (line_of w))
+    where
+      by_test : (x : Bool) → (cond x (record { dir = d; fill = Some (begun_fill d w (v.protected (line_of w)) (v.word w)) }) (idle d)).dir ≡ d
+      by_test true = refl
+      by_test false = refl
+
+  spares_late : (o : Option ℕ) → o ≡ hit (finished v t).dir w
+      → HolderIsSpared (option_map_or (λ _. turn (touched_by (finished v t) w) (finish_calls v t)) o (turn (begun v (finished v t).dir w) (finish_calls v t ++ (reads w (reading v w) ∷ [])))).tables w
+  spares_late (Some x) e k h = touch_spares_it (finished v t) w (found (finished v t).dir (line_of w)) refl k h
+  spares_late None e k h =
+      let none = ap (λ (d : Dir). found d (line_of w)) (begun_dir (finished v t).dir) ∙ none_found (finished v t).dir w e in
+      absurd (cc)
+
+  spares_early : (o : Option ℕ) → HolderIsSpared (option_map_or (λ _. turn (touched_by t w) []) o (read_after v (finish_turn v t) w)).tables w
+  spares_early (Some x) = touch_spares_it t w (found t.dir (line_of w)) refl
+  spares_early None = spares_late (hit (finished v t).dir w) refl
+
+  read_spares : buffered_of t.fill w ≡ None → HolderIsSpared (read_turn v t w).tables w
+  read_spares = by_buffer (buffered_of t.fill w)
+    where
+      by_buffer : (o : Option ℕ) → o ≡ None → HolderIsSpared (option_map_or (λ _. turn t []) o (option_map_or (λ _. turn (touched_by t w) []) (hit t.dir w) (read_after v (finish_turn v t) w))).tables w
+      by_buffer None e = spares_early (hit t.dir w)
+      by_buffer (Some x) e = absurd (cc)
+
+-- A word that is changed in its way moves no line, and the way is touched.
+write_spares : (t : Model) (w : Store) → HolderIsSpared (written t w) w.word
+write_spares t w = by_answer (found t.dir (line_of w.word)) refl
+  where
+    same_lines : (k : WayNumber) (o : Option Way) (line : ℕ) → found (changed_way t.dir w k o) line ≡ found t.dir line
+    same_lines k None line = refl
+    same_lines k (Some y) line = by_mark y.protect
+      where
+        by_mark : (p : Bool) → found (if p then t.dir else changed t.dir w.word k (changed_word w y)) line ≡ found t.dir line
+        by_mark true = refl
+        by_mark false = change_moves_none t.dir w.word k (changed_word w y) line
+
+    by_answer : (o : Option WayNumber) → found t.dir (line_of w.word) ≡ o → HolderIsSpared (record { dir = changed_of t.dir w o; fill = t.fill }) w.word
+    by_answer None e k h = absurd (cc)
+    by_answer (Some j) e k h =
+        let new = changed_way t.dir w j (t.dir.way (set_of (line_of w.word)) j) in
+        let there : found new (line_of w.word) ≡ found t.dir (line_of w.word) = same_lines j (t.dir.way (set_of (line_of w.word)) j) (line_of w.word) in
+        touch_spares_it (record { dir = new; fill = t.fill }) w.word (Some j) (there ∙ e) k h
+
 pub caching_is_lawful : CachingIsLawful
 caching_is_lawful = record {
   unseen = shown_kept;
@@ -66,5 +160,9 @@ caching_is_lawful = record {
   begins = named;
   goes_on = λ v t. goes_on v t.dir t.fill;
   finishes = λ v t c. finishes v (lacking t.fill) t.dir t.fill c (omega arith);
-  forgets = gone;
+  lands = λ v t b c is. record { word_by_word = lands v t.dir t.fill b c is; at_once = ends_there v t.dir t.fill b c is };
+  reads_touch = read_spares;
+  writes_touch = λ v t w r. write_spares (ready_turn v t (line_of w.word)).tables w;
+  snoops_forget = λ v t w r. gone v t (line_of w);
+  outsides_forget = λ v t w r. gone v t (line_of w.word);
 }

@@ -1,11 +1,14 @@
 -- What a read answers, and what it leaves.
-use Rattle.std.proofs.Common.{◌≡◌, ℕ, zero, suc, ◌+◌, ◌*◌, ◌/◌, ◌<◌, Bool, true, false, cond, ◌&&◌, eqb, List, get_or, Some, None, Ok, Err, Option, Result, sym, refl, ap, ◌∙◌, subst, ap₂, arith}
+use Rattle.std.proofs.Common.{◌≡◌, ℕ, ◌+◌, ◌*◌, ◌/◌, ◌<◌, Bool, true, false, cond, ◌&&◌, eqb, List, get_or, Some, None, Ok, Err, Option, Result, sym, refl, ap, ◌∙◌, subst, ap₂, arith}
+use Rattle.std.specs.Int.Bits.{xor_zero_r}
+use Rattle.std.proofs.lemmas.Nat.Bits.{bit_at-zero}
+use Rattle.std.specs.Result.{result_and}
 use lib.Bits.{bit_xor}
 use lib.Count.{ones, ones_in}
 use Rattle.std.proofs.lemmas.Bool.{eqb-true, and_right, cond-false}
 use Rattle.fault.specs.declared.Fault.{Fault}
 use Rattle.port.specs.Memory.{State}
-use Rattle.port.specs.Meaning.{Settles, marks_answer, within, then_ok}
+use Rattle.port.specs.Meaning.{Settles, marks_answer, within}
 use Rattle.directory.specs.declared.marks.WayNumber.{WayNumber}
 use Rattle.directory.specs.declared.sets.Way.{Way}
 use Rattle.directory.specs.declared.fills.Fill.{Fill}
@@ -93,37 +96,16 @@ ones_zero : ones 0 ≡ 0
 unfolding ones ones_in
 ones_zero = refl
 
-nothing_ticked : (p : ℕ) → p < 8 → ticked 0 p ≡ false
-nothing_ticked zero h = refl
-nothing_ticked (suc zero) h = refl
-nothing_ticked (suc (suc zero)) h = refl
-nothing_ticked (suc (suc (suc zero))) h = refl
-nothing_ticked (suc (suc (suc (suc zero)))) h = refl
-nothing_ticked (suc (suc (suc (suc (suc zero))))) h = refl
-nothing_ticked (suc (suc (suc (suc (suc (suc zero)))))) h = refl
-nothing_ticked (suc (suc (suc (suc (suc (suc (suc zero))))))) h = refl
-nothing_ticked (suc (suc (suc (suc (suc (suc (suc (suc p)))))))) h = absurd (omega arith)
+nothing_ticked : (p : ℕ) → ticked 0 p ≡ false
+nothing_ticked p = ap (λ (x : ℕ). eqb x 1) (bit_at-zero p)
 
 nothing_fetched : (w : ℕ) (k : WayNumber) (p : Bool) (a x : ℕ) → fetched_word (starting w k p) a ≡ Some x → ⊥
 nothing_fetched w k p a x e =
-    let none : fetched_word (starting w k p) a ≡ None = cond-false (eqb (line_of w) (line_of a) && ticked 0 (place_of a)) _ None (and_right (eqb (line_of w) (line_of a)) (ticked 0 (place_of a)) (nothing_ticked (place_of a) (omega arith))) in
+    let none : fetched_word (starting w k p) a ≡ None = cond-false (eqb (line_of w) (line_of a) && ticked 0 (place_of a)) _ None (and_right (eqb (line_of w) (line_of a)) (ticked 0 (place_of a)) (nothing_ticked (place_of a))) in
     absurd (cc)
 
 starts_there : (w : ℕ) (k : WayNumber) (p : Bool) → next_word (starting w k p) ≡ w
-starts_there w k p =
-    let hp : place_of w < 8 = omega arith in
-    ap (λ (x : ℕ). line_of w * 8 + x) (ap (bit_xor (place_of w)) ones_zero ∙ xor_none (place_of w) hp) ∙ line_word w
-  where
-    xor_none : (first : ℕ) → first < 8 → bit_xor first 0 ≡ first
-    xor_none zero h = refl
-    xor_none (suc zero) h = refl
-    xor_none (suc (suc zero)) h = refl
-    xor_none (suc (suc (suc zero))) h = refl
-    xor_none (suc (suc (suc (suc zero)))) h = refl
-    xor_none (suc (suc (suc (suc (suc zero))))) h = refl
-    xor_none (suc (suc (suc (suc (suc (suc zero)))))) h = refl
-    xor_none (suc (suc (suc (suc (suc (suc (suc zero))))))) h = refl
-    xor_none (suc (suc (suc (suc (suc (suc (suc (suc p)))))))) h = absurd (omega arith)
+starts_there w k p = ap (λ (x : ℕ). line_of w * 8 + x) (ap (bit_xor (place_of w)) ones_zero ∙ xor_zero_r (place_of w)) ∙ line_word w
 
 module _ (v : Shown) (d : Dir) (w : ℕ) (c : Coherent v (idle d)) (inside : w < v.words) (absent : found d (line_of w) ≡ None) where
   begin_fill : (k : WayNumber) → v.cacheable (line_of w) ≡ true → Filling v d (starting w k (v.protected (line_of w)))
@@ -165,7 +147,7 @@ second (Err x) = false
 marks_ok : (s : State) (l : ℕ) (k p : Bool) → ◌≡◌ {A = Result (Bool × Bool) Fault} (Ok (k, p)) (marks_answer s l) → (k ≡ s.facts.cacheable l) × (p ≡ s.protected l)
 marks_ok s l k p e = by_answer (within l (s.facts.words / 8) s.facts.floor) e
   where
-    by_answer : (r : Result (Unit {0}) Fault) → ◌≡◌ {A = Result (Bool × Bool) Fault} (Ok (k, p)) (then_ok r (Ok (s.facts.cacheable l, s.protected l))) → (k ≡ s.facts.cacheable l) × (p ≡ s.protected l)
+    by_answer : (r : Result (Unit {0}) Fault) → ◌≡◌ {A = Result (Bool × Bool) Fault} (Ok (k, p)) (result_and r (Ok (s.facts.cacheable l, s.protected l))) → (k ≡ s.facts.cacheable l) × (p ≡ s.protected l)
     by_answer (Ok _) e = (ap first e, ap second e)
     by_answer (Err x) e = absurd (cc)
 

@@ -1,6 +1,6 @@
 -- What each call makes of the tables of a cache, and by which calls it reaches the port below.
 use Rattle.std.specs.Prelude.{ℕ, zero, suc, ◌-◌, Bool, false, cond, not, ◌&&◌, List, [], ◌∷◌, ◌++◌, Some, None, Option, Result, ◌==◌, count_ones, slice_index, if◌then◌else◌}
-use Rattle.std.specs.Option.{option_map}
+use Rattle.std.specs.Option.{option_map, option_map_or}
 use Rattle.fault.specs.declared.Fault.{Fault}
 use Rattle.port.specs.declared.Store.{Store}
 use Rattle.port.specs.Lanes.{joined}
@@ -39,10 +39,6 @@ pub record Turn : Type 0 where
 
 abbrev pub turn : Model → List Step → Turn
 turn t ds = record { tables = t; calls = ds }
-
-abbrev pub if_some : {X A : Type 0} → Option X → (X → A) → A → A
-if_some None f other = other
-if_some (Some x) f other = f x
 
 -- A word has come to a fill. The eighth completes it: the line goes into the way that was named at the miss.
 abbrev pub stowed : Dir → Fill → Model
@@ -121,13 +117,13 @@ miss_turn v d w = turn (begun v d w) (reads w (reading v w) ∷ [])
 -- A read: the line buffer answers, else a way, else the fill is finished, and then a way answers or the word is read below.
 abbrev pub read_after : Shown → Turn → ℕ → Turn
 read_after v u w =
-    if_some (hit u.tables.dir w) (λ _. turn (touched_by u.tables w) u.calls)
+    option_map_or (λ _. turn (touched_by u.tables w) u.calls) (hit u.tables.dir w)
     (turn (begun v u.tables.dir w) (u.calls ++ (reads w (reading v w) ∷ [])))
 
 abbrev pub read_turn : Shown → Model → ℕ → Turn
 read_turn v t w =
-    if_some (buffered_of t.fill w) (λ _. turn t [])
-    (if_some (hit t.dir w) (λ _. turn (touched_by t w) [])
+    option_map_or (λ _. turn t []) (buffered_of t.fill w)
+    (option_map_or (λ _. turn (touched_by t w) []) (hit t.dir w)
     (read_after v (finish_turn v t) w))
 
 -- A line leaves the tables: its fill is abandoned and its way becomes invalid; the marks stay.

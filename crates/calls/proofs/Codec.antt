@@ -1,5 +1,6 @@
 -- A list and its calls determine each other.
-use Rattle.std.proofs.Common.{◌≡◌, ℕ, zero, suc, ◌+◌, ◌*◌, ◌/◌, ◌%◌, ◌<◌, ◌≤◌, Bool, true, false, cond, eqb, ◌⊎◌, List, [], ◌∷◌, ◌++◌, length, get_or, drop, Some, Ok, Err, Option, Result, sym, refl, ap, ◌∙◌, subst, inl, inr, ⊎_elim, arith, lit<, eqb-true}
+use Rattle.std.proofs.Common.{◌≡◌, ℕ, zero, suc, ◌+◌, ◌*◌, ◌/◌, ◌%◌, ◌<◌, ◌≤◌, Bool, true, false, cond, eqb, ◌⊎◌, List, [], ◌∷◌, ◌++◌, length, get_or, drop, Some, None, Ok, Err, Option, Result, sym, refl, ap, ◌∙◌, subst, inl, inr, ⊎_elim, arith, lit<, eqb-true}
+use Rattle.std.specs.Result.{result_and}
 use Rattle.std.proofs.lemmas.Bool.Decides.{nat_tests}
 use Rattle.fault.specs.declared.Fault.{Fault}
 use Rattle.calls.specs.declared.call.Call.{Call}
@@ -9,7 +10,7 @@ use Rattle.calls.specs.declared.call.Cargo.{Cargo}
 use Rattle.calls.specs.declared.call.Cargo.TheVariants.{Nothing, Word, Store}
 use Rattle.calls.specs.Calls.{cargo_of, size_with, size_of}
 use Rattle.calls.specs.Words.{word_of, words}
-use Rattle.calls.specs.Format.{bits, kind_of, lanes_of, target_of, value_of, malformed, given, map_ok, then_ok, bare_call, target_in, value_in, store_in, call_of_kind, call_in, first_of, front, stride, calls_from, length_in, meaning}
+use Rattle.calls.specs.Format.{bits, kind_of, lanes_of, target_of, value_of, malformed, given, map_ok, bare_call, target_in, value_in, store_in, call_of_kind, call_in, first_of, front, stride, calls_from, length_in, meaning}
 use Rattle.calls.specs.Encoding.{packed, kind_for, words_with, call_words, list_words, bytes_of, encode, CargoFits, CallsFit, ListEncodesItsCalls}
 use Rattle.calls.proofs.Reading.{one_or_two, continued, calls_step}
 
@@ -28,7 +29,7 @@ words_of_bytes (w ∷ ws) =
     rw (e, words_of_bytes ws)
 
 -- Each byte of a list of bytes is below 256.
-abbrev Bytes : List ℕ → Type 0
+abbrev pub Bytes : List ℕ → Type 0
 Bytes bytes = (i : ℕ) → get_or bytes i 0 < 256
 
 bytes_of_words : (bytes : List ℕ) → Bytes bytes → length bytes % 4 ≡ 0 → bytes ≡ bytes_of (words bytes)
@@ -55,10 +56,10 @@ bytes_of_words (a ∷ b ∷ c ∷ d ∷ rest) small whole =
 -- The parts of a packed list word.
 
 module _ (k l w : ℕ) (hk : k < 16) (hl : l < 4) (hw : w < 8388608) where
-  kind_packed : kind_of (packed k l w) ≡ k
+  pub kind_packed : kind_of (packed k l w) ≡ k
   kind_packed = omega arith
 
-  spare_packed : bits (packed k l w) 25 3 ≡ 0
+  pub spare_packed : bits (packed k l w) 25 3 ≡ 0
   spare_packed = omega arith
 
   lanes_packed : lanes_of (packed k l w) ≡ l
@@ -102,7 +103,7 @@ store_front : (i k : ℕ) (f : StoreRecord → Call) (s : StoreRecord) → k < 1
 store_front i k f s hk (hw, hl, hv) row =
     rw (kind_packed k s.lanes s.word hk hl hw) (row (packed k s.lanes s.word) (Some (packed 15 0 s.value)) ∙ ap (map_ok f) (store_back i k s hk (hw, hl, hv)))
 
-call_front : (i : ℕ) (call : Call) (ws : List ℕ) → CargoFits (cargo_of call) → front i (call_words call ++ ws) ≡ Ok (Some call)
+pub call_front : (i : ℕ) (call : Call) (ws : List ℕ) → CargoFits (cargo_of call) → front i (call_words call ++ ws) ≡ Ok (Some call)
 call_front i (Read w) ws h = ap (map_ok Some) (target_front i 0 (lit< tt) (first_of ws) Read w h (λ x. refl))
 call_front i (Write s) ws h = ap (map_ok Some) (store_front i 1 Write s (lit< tt) h (λ x next. refl))
 call_front i (Unposted s) ws h = ap (map_ok Some) (store_front i 2 Unposted s (lit< tt) h (λ x next. refl))
@@ -119,7 +120,7 @@ call_front i (Snoop w) ws h = ap (map_ok Some) (target_front i 12 (lit< tt) (fir
 call_front i Flush ws h = ap (map_ok Some) (bare_front i 13 (lit< tt) (first_of ws) Flush (λ x. refl))
 
 -- past a call's words
-past_call : (k : ℕ) (cargo : Cargo) (ws : List ℕ) → drop (size_with cargo) (words_with k cargo ++ ws) ≡ ws
+pub past_call : (k : ℕ) (cargo : Cargo) (ws : List ℕ) → drop (size_with cargo) (words_with k cargo ++ ws) ≡ ws
 past_call k Nothing ws = refl
 past_call k (Word w) ws = refl
 past_call k (Store s) ws = refl
@@ -133,13 +134,13 @@ calls_back i (call ∷ calls) (h, hs) =
     ap (λ ws. map_ok (λ more. call ∷ more) (calls_from (i + size_of call) ws)) (past_call (kind_for call) (cargo_of call) (list_words calls)) ∙
     ap (map_ok (λ more. call ∷ more)) (calls_back (i + size_of call) calls hs)
 
-fit_length : (n : ℕ) → n % 4 ≡ 0 → n ≤ 16384 → length_in n ≡ Ok tt
+pub fit_length : (n : ℕ) → n % 4 ≡ 0 → n ≤ 16384 → length_in n ≡ Ok tt
 fit_length n e h = grind (arith, nat_tests)
 
 encoded_back : (calls : List Call) → CallsFit calls → length (encode calls) ≤ 16384 → meaning (encode calls) ≡ Ok calls
 encoded_back calls fit short =
     let whole : length (encode calls) % 4 ≡ 0 = omega (arith, bytes_length (list_words calls)) in
-    ap (λ (l : Result (Unit {0}) Fault). then_ok l (calls_from 0 (words (encode calls)))) (fit_length (length (encode calls)) whole short) ∙
+    ap (λ (l : Result (Unit {0}) Fault). result_and l (calls_from 0 (words (encode calls)))) (fit_length (length (encode calls)) whole short) ∙
     ap (calls_from 0) (words_of_bytes (list_words calls)) ∙
     calls_back 0 calls fit
 
@@ -164,7 +165,7 @@ row_split a b r q x e = ⊎_elim (λ h. inl (eqb-true a b h.0, h.1)) inr (cond_s
 row_ok : {X : Type 0} (a b : ℕ) (r : Result X Fault) (f : Fault) (x : X) → cond (eqb a b) r (Err f) ≡ Ok x → (a ≡ b) × (r ≡ Ok x)
 row_ok a b r f x e = ⊎_elim (λ h. h) (λ (bad : Err f ≡ Ok x). let z : ◌≡◌ {A = ℕ} 0 1 = cc in absurd (omega arith)) (row_split a b r (Err f) x e)
 
-abbrev Word32 : ℕ → Type 0
+abbrev pub Word32 : ℕ → Type 0
 Word32 w = w < 4294967296
 
 bare_ok : (i w : ℕ) (call made : Call) → Word32 w → bare_call i w call ≡ Ok made → (made ≡ call) × (w ≡ packed (kind_of w) 0 0)
@@ -186,19 +187,20 @@ value_ok i v d e =
     (h.0, eqb-true (bits d 16 12) 0 g.0, g.1)
 
 -- The call of that kind and cargo is what the words w ∷ ws begin with.
-abbrev MadeOf : ℕ → Cargo → ℕ → List ℕ → Type 0
+abbrev pub MadeOf : ℕ → Cargo → ℕ → List ℕ → Type 0
 MadeOf k cargo w ws = CargoFits cargo × (w ∷ ws ≡ words_with k cargo ++ drop (size_with cargo) (w ∷ ws))
 
-abbrev Made : Call → ℕ → List ℕ → Type 0
+abbrev pub Made : Call → ℕ → List ℕ → Type 0
 Made call w ws = MadeOf (kind_for call) (cargo_of call) w ws
 
 -- every word of a list is below 2 ^ 32
-abbrev Words : List ℕ → Type 0
+abbrev pub Words : List ℕ → Type 0
 Words ws = (i : ℕ) → get_or ws i 0 < 4294967296
 
 store_ok : (i w : ℕ) (ws : List ℕ) (s : StoreRecord) → Words (w ∷ ws) → store_in i w (first_of ws) ≡ Ok s → MadeOf (kind_of w) (Store s) w ws
 store_ok i w [] s h e =
-    let r = row_ok (bits w 25 3) 0 (Err (malformed i)) (malformed i) s e in
+    let make : ℕ → StoreRecord = λ v. record { word = target_of w; lanes = lanes_of w; value = v } in
+    let r = row_ok (bits w 25 3) 0 (map_ok make (value_in i None)) (malformed i) s e in
     let z : ◌≡◌ {A = ℕ} 0 1 = cc in
     absurd (omega arith)
 store_ok i w (d ∷ ds) s h e =
@@ -233,7 +235,7 @@ module _ (i w : ℕ) (ws : List ℕ) (call : Call) (h : Words (w ∷ ws)) where
   row : (k : ℕ) (r q : Result Call Fault) → (kind_of w ≡ k → r ≡ Ok call → Made call w ws) → (q ≡ Ok call → Made call w ws) → cond (eqb (kind_of w) k) r q ≡ Ok call → Made call w ws
   row k r q here later e = ⊎_elim (λ t. here t.0 t.1) later (row_split (kind_of w) k r q call e)
 
-  call_ok : call_in i w (first_of ws) ≡ Ok call → Made call w ws
+  pub call_ok : call_in i w (first_of ws) ≡ Ok call → Made call w ws
   call_ok =
       row 0 _ _ (target_row 0 Read (λ t m. m))
       (row 1 _ _ (store_row 1 Write (λ s m. m))
@@ -253,7 +255,7 @@ module _ (i w : ℕ) (ws : List ℕ) (call : Call) (h : Words (w ∷ ws)) where
 
 -- The calls of words that are read are those that the words were written for.
 
-front_ok : (i w : ℕ) (ws : List ℕ) (o : Option Call) → Words (w ∷ ws) → front i (w ∷ ws) ≡ Ok o → (call : Call) × (o ≡ Some call) × Made call w ws
+pub front_ok : (i w : ℕ) (ws : List ℕ) (o : Option Call) → Words (w ∷ ws) → front i (w ∷ ws) ≡ Ok o → (call : Call) × (o ≡ Some call) × Made call w ws
 front_ok i w ws o h e =
     let m = map_ok_lem Some (call_in i w (first_of ws)) o e in
     (m.0, m.2, call_ok i w ws m.0 h m.1)
@@ -303,7 +305,7 @@ calls_ok i (w ∷ []) calls h e = step_ok i w [] calls h e (none_ok (i + 1)) (no
 calls_ok i (w ∷ v ∷ vs) calls h e =
     step_ok i w (v ∷ vs) calls h e (λ cs. calls_ok (i + 1) (v ∷ vs) cs (λ k. h (suc k))) (λ cs. calls_ok (i + 2) vs cs (λ k. h (suc (suc k))))
 
-words_below : (bytes : List ℕ) → Bytes bytes → Words (words bytes)
+pub words_below : (bytes : List ℕ) → Bytes bytes → Words (words bytes)
 unfolding words
 words_below [] small i = omega arith
 words_below (a ∷ []) small i = omega arith
@@ -317,16 +319,16 @@ words_below (a ∷ b ∷ c ∷ d ∷ rest) small zero =
     omega arith
 words_below (a ∷ b ∷ c ∷ d ∷ rest) small (suc i) = words_below rest (λ k. small (suc (suc (suc (suc k))))) i
 
-then_ok_lem : {X Y : Type 0} (l : Result X Fault) (r : Result Y Fault) (y : Y) → then_ok l r ≡ Ok y → (x : X) × (l ≡ Ok x) × (r ≡ Ok y)
-then_ok_lem (Ok x) r y e = (x, refl, e)
-then_ok_lem (Err f) r y e = let z : ◌≡◌ {A = ℕ} 0 1 = cc in absurd (omega arith)
+result_and_lem : {X Y : Type 0} (l : Result X Fault) (r : Result Y Fault) (y : Y) → result_and l r ≡ Ok y → (x : X) × (l ≡ Ok x) × (r ≡ Ok y)
+result_and_lem (Ok x) r y e = (x, refl, e)
+result_and_lem (Err f) r y e = let z : ◌≡◌ {A = ℕ} 0 1 = cc in absurd (omega arith)
 
 whole_length : (n : ℕ) (u : Unit {0}) → length_in n ≡ Ok u → n % 4 ≡ 0
 whole_length n u e = grind (arith, nat_tests)
 
 decoded_ok : (bytes : List ℕ) → Bytes bytes → (calls : List Call) → meaning bytes ≡ Ok calls → CallsFit calls × (bytes ≡ encode calls)
 decoded_ok bytes small calls e =
-    let l = then_ok_lem (length_in (length bytes)) (calls_from 0 (words bytes)) calls e in
+    let l = result_and_lem (length_in (length bytes)) (calls_from 0 (words bytes)) calls e in
     let w = calls_ok 0 (words bytes) calls (words_below bytes small) l.2 in
     (w.0, bytes_of_words bytes small (whole_length (length bytes) l.0 l.1) ∙ ap bytes_of w.1)
 

@@ -1,13 +1,19 @@
 -- Where the words of a list stand among its bytes, and how a reader goes from one call to the next.
 use Rattle.std.proofs.Common.{◌≡◌, ℕ, zero, suc, ◌+◌, ◌-◌, ◌*◌, ◌/◌, ◌<◌, ◌≤◌, ◌⊎◌, List, [], ◌∷◌, ◌++◌, length, get_or, drop, Some, None, Ok, Err, Option, Result, sym, refl, ap, ◌∙◌, inl, inr, ⊎_elim, append_assoc, append-nil, add-zero, arith, get_or-drop, drop-drop}
+use Rattle.std.specs.Result.{result_and}
 use native.Mathlib.Decide.{dec_lt}
 use Rattle.fault.specs.declared.Fault.{Fault}
 use Rattle.calls.specs.declared.call.Call.{Call}
 use Rattle.calls.specs.declared.call.Cargo.{Cargo}
 use Rattle.calls.specs.declared.call.Cargo.TheVariants.{Nothing, Word, Store}
 use Rattle.calls.specs.Calls.{cargo_of, size_with, size_of}
-use Rattle.calls.specs.Words.{words, word_at, words_from}
-use Rattle.calls.specs.Format.{map_ok, then_ok, call_in, first_of, front, stride, followed, calls_from, length_in, next_in}
+use Rattle.calls.specs.Words.{word_of, words, words_from}
+use Rattle.calls.specs.Format.{map_ok, call_in, first_of, front, stride, followed, calls_from, length_in, next_in}
+
+-- the word with that index, where there is one
+abbrev pub word_at : List ℕ → ℕ → ℕ
+word_at bytes i =
+    word_of (get_or bytes (i * 4) 0) (get_or bytes (i * 4 + 1) 0) (get_or bytes (i * 4 + 2) 0) (get_or bytes (i * 4 + 3) 0)
 
 -- the word with index i + 1 is the one with index i four bytes on
 at_four : (a b c d : ℕ) (rest : List ℕ) (i : ℕ) → word_at (a ∷ b ∷ c ∷ d ∷ rest) (suc i) ≡ word_at rest i
@@ -70,7 +76,7 @@ size_bounds call = ⊎_elim (λ e. (omega arith, omega arith)) (λ e. (omega ari
 pub next_there : (bytes : List ℕ) (i w : ℕ) (next : Option ℕ) (r : Result Call Fault) → Ok tt ≡ length_in (length bytes) →
     Some w ≡ first_of (words_from i bytes) → next ≡ first_of (words_from (i + 1) bytes) → r ≡ call_in i w next → next_in i bytes ≡ map_ok Some r
 next_there bytes i w next r fit here after is =
-    ap (λ (l : Result (Unit {0}) Fault). then_ok l (front i (words_from i bytes))) (sym fit) ∙
+    ap (λ (l : Result (Unit {0}) Fault). result_and l (front i (words_from i bytes))) (sym fit) ∙
     front_some i w (words_from i bytes) next here (after ∙ ap first_of (sym (drop-drop 1 i (words bytes)))) ∙
     ap (map_ok Some) (sym is)
 
@@ -102,17 +108,17 @@ calls_step i (w ∷ v ∷ vs) = followed_more i w v vs (front i (w ∷ v ∷ vs)
 
 -- What the list gives from index i on.
 abbrev pub rest : ℕ → List ℕ → Result (List Call) Fault
-rest i bytes = then_ok (length_in (length bytes)) (calls_from i (words_from i bytes))
+rest i bytes = result_and (length_in (length bytes)) (calls_from i (words_from i bytes))
 
-length_step : (l : Result (Unit {0}) Fault) (i : ℕ) (ws : List ℕ) (r : Result (Option Call) Fault) → r ≡ then_ok l (front i ws) →
-    then_ok l (calls_from i ws) ≡ continued r (then_ok l (calls_from (i + stride r) (drop (stride r) ws)))
+length_step : (l : Result (Unit {0}) Fault) (i : ℕ) (ws : List ℕ) (r : Result (Option Call) Fault) → r ≡ result_and l (front i ws) →
+    result_and l (calls_from i ws) ≡ continued r (result_and l (calls_from (i + stride r) (drop (stride r) ws)))
 length_step (Ok u) i ws r e = rw e (calls_step i ws)
 length_step (Err f) i ws r e = rw e
 
 rest_step : (bytes : List ℕ) (i : ℕ) (r : Result (Option Call) Fault) → r ≡ next_in i bytes → rest i bytes ≡ continued r (rest (i + stride r) bytes)
 rest_step bytes i r e =
     length_step (length_in (length bytes)) i (words_from i bytes) r e ∙
-    ap (λ ws. continued r (then_ok (length_in (length bytes)) (calls_from (i + stride r) ws))) (drop-drop (stride r) i (words bytes))
+    ap (λ ws. continued r (result_and (length_in (length bytes)) (calls_from (i + stride r) ws))) (drop-drop (stride r) i (words bytes))
 
 -- Some calls, and then those of a reading.
 abbrev pub onto : List Call → Result (List Call) Fault → Result (List Call) Fault
@@ -142,7 +148,7 @@ module _ (m : Result (List Call) Fault) (bytes ys : List ℕ) (i : ℕ) (calls :
   turn_stop f e = turn (Err f) e
 
 -- a call lies within the list, so that a reader comes to its end
-some_within : (l : Result (Unit {0}) Fault) (r : Result (Option Call) Fault) (call : Call) → Ok (Some call) ≡ then_ok l r → r ≡ Ok None → ⊥
+some_within : (l : Result (Unit {0}) Fault) (r : Result (Option Call) Fault) (call : Call) → Ok (Some call) ≡ result_and l r → r ≡ Ok None → ⊥
 some_within (Ok u) r call e d = let z : ◌≡◌ {A = ℕ} 0 1 = cc in omega arith
 some_within (Err f) r call e d = let z : ◌≡◌ {A = ℕ} 0 1 = cc in omega arith
 

@@ -1,5 +1,6 @@
 -- What a call list means: its calls, or why and where it is refused.
 use Rattle.std.specs.Prelude.{ℕ, ◌+◌, ◌/◌, ◌%◌, ◌^◌, Bool, true, false, cond, List, [], ◌∷◌, length, Some, None, Ok, Err, Option, Result, ◌==◌, nat_le}
+use Rattle.std.specs.Result.{result_and}
 use Rattle.fault.specs.declared.Fault.{Fault}
 use Rattle.fault.specs.declared.Refusal.TheVariants.{ListLength, ListWord}
 use Rattle.calls.specs.declared.call.Call.{Call}
@@ -36,10 +37,6 @@ unfit_length = record { refusal = ListLength; place = 0; floor = 0 }
 abbrev pub given : {X : Type 0} → Bool → ℕ → X → Result X Fault
 given true i x = Ok x
 given false i x = Err (malformed i)
-
-abbrev pub then_ok : {X Y : Type 0} → Result X Fault → Result Y Fault → Result Y Fault
-then_ok (Ok x) r = r
-then_ok (Err e) r = Err e
 
 abbrev pub map_ok : {X Y : Type 0} → (X → Y) → Result X Fault → Result Y Fault
 map_ok f (Ok x) = Ok (f x)
@@ -103,7 +100,7 @@ stride (Ok None) = 0
 stride (Ok (Some call)) = size_of call
 stride (Err e) = 0
 
--- The calls after a front: of one word less, or of two.
+-- All calls from a front on, where `one` are the calls from the next list word on, and `two` those from the word after it.
 abbrev pub followed : Result (Option Call) Fault → Result (List Call) Fault → Result (List Call) Fault → Result (List Call) Fault
 followed (Ok None) one two = Ok []
 followed (Ok (Some call)) one two = map_ok (λ calls. call ∷ calls) (cond (size_of call == 2) two one)
@@ -122,8 +119,8 @@ length_in n =
 
 -- What stands at index i of a list: a call, nothing at the end, or a refusal.
 abbrev pub next_in : ℕ → List ℕ → Result (Option Call) Fault
-next_in i bytes = then_ok (length_in (length bytes)) (front i (words_from i bytes))
+next_in i bytes = result_and (length_in (length bytes)) (front i (words_from i bytes))
 
 -- What a list means: its calls, or its refusal.
 abbrev pub meaning : List ℕ → Result (List Call) Fault
-meaning bytes = then_ok (length_in (length bytes)) (calls_from 0 (words bytes))
+meaning bytes = result_and (length_in (length bytes)) (calls_from 0 (words bytes))

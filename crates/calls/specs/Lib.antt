@@ -2,4 +2,5 @@ pub mod Calls
 pub mod Words
 pub mod Format
 pub mod Encoding
+pub mod Malformed
 pub mod Whole

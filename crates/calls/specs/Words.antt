@@ -1,5 +1,5 @@
 -- The 32-bit words of a list, four bytes each, the low byte first.
-use Rattle.std.specs.Prelude.{ℕ, ◌+◌, ◌*◌, List, [], ◌∷◌, drop, slice_index}
+use Rattle.std.specs.Prelude.{ℕ, ◌+◌, ◌*◌, List, [], ◌∷◌, drop}
 
 abbrev pub word_of : ℕ → ℕ → ℕ → ℕ → ℕ
 word_of a b c d = a + b * 256 + c * 65536 + d * 16777216
@@ -11,11 +11,6 @@ words (a ∷ []) = []
 words (a ∷ b ∷ []) = []
 words (a ∷ b ∷ c ∷ []) = []
 words (a ∷ b ∷ c ∷ d ∷ rest) = word_of a b c d ∷ words rest
-
--- the word with that index, where there is one
-abbrev pub word_at : List ℕ → ℕ → ℕ
-word_at bytes i =
-    word_of (slice_index bytes (i * 4)) (slice_index bytes (i * 4 + 1)) (slice_index bytes (i * 4 + 2)) (slice_index bytes (i * 4 + 3))
 
 -- the words from that index on
 abbrev pub words_from : ℕ → List ℕ → List ℕ

@@ -8,5 +8,5 @@ mod whole;
 
 pub use call::{Call, Cargo};
 pub use error::Stop;
-pub use reader::Reader;
+pub use reader::{MOST_BYTES, Reader};
 pub use whole::read_list;

@@ -8,7 +8,7 @@ use fault::{Fault, Refusal};
 use port::Store;
 
 /// The most bytes a list may have.
-const MOST_BYTES: usize = 16_384;
+pub const MOST_BYTES: usize = 16_384;
 
 /// Reads a list's calls one by one, and keeps its place among the list words.
 #[derive(Drop)]
@@ -17,7 +17,7 @@ pub struct Reader<'a> {
     index: u32,
 }
 
-// Refuses a list that has a part of a word, or too many.
+// Refuses a list that ends in a part of a word, or has too many words.
 fn fit_length(length: usize) -> Result<(), Fault>
     ensures { result ≡ Rattle.calls.specs.Format.length_in length }
 {
@@ -77,7 +77,7 @@ struct Front {
     index: u32,
     head: u32,
     next: Option<u32>,
-    // A list is far shorter, so the index after this one is a number too.
+    // A list is far shorter, so the index after this one fits a `u32` too.
     ghost small: { index < 2 ^ 31 },
 }
 

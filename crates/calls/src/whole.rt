@@ -3,6 +3,7 @@ ghost use Rattle.std.specs.Prelude.{◌≡◌, Ok, MatchResult};
 ghost use Rattle.calls.specs.Format.{meaning};
 ghost use Rattle.calls.specs.Whole.{Told};
 ghost use Rattle.calls.specs.Encoding.{ListEncodesItsCalls};
+ghost use Rattle.calls.specs.Malformed.{FirstMalformedWordIsTold};
 
 use super::call::Call;
 use super::error::Stop;
@@ -13,6 +14,7 @@ use std::alloc::Global;
 pub fn read_list(alloc: Global, bytes: &[u8]) -> Result<Vec<Call>, Stop>
     ensures answer { MatchResult result (λ calls. meaning bytes.now ≡ Ok calls.items) (λ stop. Told stop (meaning bytes.now)) }
     ensures law { ListEncodesItsCalls bytes.now (meaning bytes.now) }
+    ensures refusal { FirstMalformedWordIsTold bytes.now (meaning bytes.now) }
 {
     let mut calls = Vec::new(alloc);
     let mut reader = Reader::new(bytes);

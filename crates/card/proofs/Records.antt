@@ -1,10 +1,10 @@
 -- What a run leaves of the caller's records.
 use Rattle.std.proofs.Common.{◌≡◌, ℕ, zero, suc, ◌-◌, ◌*◌, ◌<◌, Bool, true, false, cond, ltb, List, [], ◌∷◌, length, get_or, set, Ok, Err, MatchBool, Result, sym, refl, ap, ◌∙◌, subst, ap₂, subst₂, arith, length-set, lt-ltb}
+use Rattle.std.specs.Result.{result_and}
 use Rattle.fault.specs.declared.Fault.{Fault}
 use Rattle.calls.specs.declared.call.Call.{Call}
 use Rattle.port.specs.declared.Store.{Store}
 use Rattle.port.specs.Memory.{State, line_of, raised}
-use Rattle.port.specs.Meaning.{then_ok}
 use Rattle.port.specs.Steps.{Step, reads, writes, advances, outsides, snoops, flushes, Chain, done, then, Drains, empty, more}
 use Rattle.write_buffer.specs.Buffering.{buffered}
 use Rattle.banks.specs.declared.line.Line.{Line}
@@ -15,7 +15,7 @@ use Rattle.banks.specs.Lines.{line_at, place_of, memory_of, changed}
 use Rattle.banks.specs.Ram.{RamWritten, RamDoes}
 use Rattle.joined_map.specs.Steps.{Posted}
 use Rattle.book.specs.declared.answer.Answer.{Answer}
-use Rattle.card.specs.Stages.{pile_state, RunOnTheStages}
+use Rattle.card.specs.Stages.{pile_state, Reached, RunOnTheStages}
 use Rattle.card.specs.Card.{card_size, unless_unfit, ram_ghosts, eprom_ghosts, CardMemory, memory_ghosts, first_state, OnlyWordsDiffer, CardKeepsItsPromise}
 
 -- RECORDS THAT DIFFER IN THEIR WORDS
@@ -54,14 +54,17 @@ written_differ ls w false =
 -- THROUGH THE BANK AND THE MAP
 
 abbrev Kept : RamBank → RamBank → Type 0
-Kept b c = OnlyWordsDiffer b.lines.now c.lines.now
+Kept b c = OnlyWordsDiffer b.lines.now c.lines.now × (c.lines.ghost_name ≡ b.lines.ghost_name)
 
 same_kept : (b c : RamBank) → c ≡ b → Kept b c
-same_kept b c e = subst (λ (x : RamBank). Kept b x) (sym e) (none_differ b.lines.now)
+same_kept b c e = subst (λ (x : RamBank). Kept b x) (sym e) (none_differ b.lines.now, refl)
+
+both_kept : (p q r : RamBank) → Kept p q → Kept q r → Kept p r
+both_kept p q r a b = (both_differ _ _ _ a.0 b.0, b.1 ∙ a.1)
 
 written_kept : (b c : RamBank) (w : Store) (r : Result (Unit {0}) Fault) → RamWritten b w r c → Kept b c
 written_kept b c w (Ok x) h =
-    subst (λ (ls : List Line). OnlyWordsDiffer b.lines.now ls) (sym h.records) (written_differ b.lines.now w (line_at b.lines.now (line_of w.word)).protect)
+    (subst (λ (ls : List Line). OnlyWordsDiffer b.lines.now ls) (sym h.records) (written_differ b.lines.now w (line_at b.lines.now (line_of w.word)).protect), h.caller)
 written_kept b c w (Err e) h = same_kept b c h
 
 ram_kept : (b c : RamBank) (d : Step) → RamDoes b d c → Kept b c
@@ -97,7 +100,7 @@ drains_kept : (p q : RamBank) → Drains ram_ghosts.state ram_ghosts.does p q �
 drains_kept p q h = same_kept p q (ram_idle p q h)
 
 posted_kept : (p q : RamBank) (w : Store) → Posted ram_ghosts.state ram_ghosts.does p w q → Kept p q
-posted_kept p q w h = both_differ _ _ _ (ram_kept p h.between (writes w (Ok tt)) h.posts) (drains_kept h.between q h.drains)
+posted_kept p q w h = both_kept p h.between q (ram_kept p h.between (writes w (Ok tt)) h.posts) (drains_kept h.between q h.drains)
 
 either : (t : Bool) (A B C : Type 0) → (A → C) → (B → C) → MatchBool t A B → C
 either true A B C f g h = f h
@@ -121,16 +124,24 @@ step_kept b c (snoops w (Err e)) h = same_kept b.low c.low (ap (λ (x : CardMemo
 step_kept b c flushes h = ram_kept b.low c.low flushes h.0
 
 chain_kept : (b c : CardMemory) (ds : List Step) → Chain memory_ghosts.does b ds c → Kept b.low c.low
-chain_kept b _ _ done = none_differ b.low.lines.now
-chain_kept b _ _ (then {q = m} {r = c} {d = d} {ds = ds} h rest) = both_differ _ _ _ (step_kept b m d h) (chain_kept m c ds rest)
+chain_kept b _ _ done = (none_differ b.low.lines.now, refl)
+chain_kept b _ _ (then {q = m} {r = c} {d = d} {ds = ds} h rest) = both_kept b.low m.low c.low (step_kept b m d h) (chain_kept m c ds rest)
+
+pub names_kept : (b r : RamBank) (m n : CardMemory) → Drains ram_ghosts.state ram_ghosts.does b m.low → Reached memory_ghosts.does m n → r ≡ n.low → r.lines.ghost_name ≡ b.lines.ghost_name
+names_kept b r m n d h e =
+    ap (λ (x : RamBank). x.lines.ghost_name) e ∙ (chain_kept m n h.calls h.chain).1 ∙ ap (λ (x : RamBank). x.lines.ghost_name) (ram_idle b m.low d)
+
+pub name_kept : (b r : RamBank) (m n : CardMemory) → Drains ram_ghosts.state ram_ghosts.does b m.low → n ≡ m → r ≡ n.low → r.lines.ghost_name ≡ b.lines.ghost_name
+name_kept b r m n d h e =
+    ap (λ (x : RamBank). x.lines.ghost_name) e ∙ ap (λ (x : CardMemory). x.low.lines.ghost_name) h ∙ ap (λ (x : RamBank). x.lines.ghost_name) (ram_idle b m.low d)
 
 -- THE WHOLE CARD
 
 -- sizes that are fit, and what they say of the bank
-fit_lines_lem : (n : ℕ) (rest : Result ℕ Fault) (w : ℕ) → then_ok (size_of_lines n) rest ≡ Ok w → words_of_lines n ≡ n * 8
+fit_lines_lem : (n : ℕ) (rest : Result ℕ Fault) (w : ℕ) → result_and (size_of_lines n) rest ≡ Ok w → words_of_lines n ≡ n * 8
 fit_lines_lem n rest w e = by_test (fit_lines n) e
   where
-    by_test : (t : Bool) → then_ok (cond t (Ok (n * 8)) (Err unfit)) rest ≡ Ok w → cond t (n * 8) 0 ≡ n * 8
+    by_test : (t : Bool) → result_and (cond t (Ok (n * 8)) (Err unfit)) rest ≡ Ok w → cond t (n * 8) 0 ≡ n * 8
     by_test true h = refl
     by_test false h = let z : ◌≡◌ {A = ℕ} 0 1 = cc in absurd (omega arith)
 
@@ -143,7 +154,7 @@ module _ (before after : List Line) (image : List ℕ) (memory left : CardMemory
     (low : memory.low.lines.now ≡ before) (high : memory.high.bytes.now ≡ image) (handed : left.low.lines.now ≡ after)
     (run : RunOnTheStages memory_ghosts memory cs rs waiting left) where
   others : OnlyWordsDiffer before after
-  others = subst₂ OnlyWordsDiffer low handed (chain_kept memory left run.reached.calls run.reached.chain)
+  others = subst₂ OnlyWordsDiffer low handed (chain_kept memory left run.reached.calls run.reached.chain).0
 
   begins : pile_state memory_ghosts run.made ≡ first_state before image
   begins =

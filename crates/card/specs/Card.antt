@@ -1,11 +1,11 @@
 -- The whole card: RAM on the caller's records and EPROM on the caller's bytes, joined, under the stages and a board.
 use Rattle.std.specs.Prelude.{◌≡◌, ℕ, ◌+◌, ◌*◌, ◌<◌, List, length, Ok, Err, Result}
+use Rattle.std.specs.Result.{result_and}
 use Rattle.fault.specs.declared.Fault.{Fault}
 use Rattle.calls.specs.declared.call.Call.{Call}
 use Rattle.calls.specs.Format.{meaning}
 use Rattle.port.specs.declared.Port.{Ghosts}
 use Rattle.port.specs.Memory.{State, raised}
-use Rattle.port.specs.Meaning.{then_ok}
 use Rattle.banks.specs.declared.line.Line.{Line}
 use Rattle.banks.specs.declared.ram.RamBank.{RamBank}
 use Rattle.banks.specs.declared.eprom.EpromBank.{EpromBank}
@@ -21,11 +21,11 @@ use Rattle.card.specs.Stages.{pile_state, RunOnTheStages}
 
 -- How many words the card has: RAM, EPROM and both together have to be of fit size.
 abbrev pub card_size : ℕ → ℕ → Result ℕ Fault
-card_size lines bytes = then_ok (size_of_lines lines) (then_ok (size_of_lines (lines_of_bytes bytes)) (size_of_lines (lines + lines_of_bytes bytes)))
+card_size lines bytes = result_and (size_of_lines lines) (result_and (size_of_lines (lines_of_bytes bytes)) (size_of_lines (lines + lines_of_bytes bytes)))
 
 -- The calls that are run: those of the list, unless the list is refused, or else the sizes are.
 abbrev pub unless_unfit : Result (List Call) Fault → Result ℕ Fault → Result (List Call) Fault
-unless_unfit (Ok cs) size = then_ok size (Ok cs)
+unless_unfit (Ok cs) size = result_and size (Ok cs)
 unless_unfit (Err fault) size = Err fault
 
 abbrev pub calls_to_run : List ℕ → List Line → List ℕ → Result (List Call) Fault

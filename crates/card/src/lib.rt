@@ -5,7 +5,7 @@ mod stages;
 mod stock;
 mod whole;
 
-pub use calls::Stop;
+pub use calls::{MOST_BYTES, Stop};
 pub use printed::{AnswerText, Printed, text};
 pub use stock::{stock_image, stock_lines};
 pub use whole::{CardRun, NotRun, card_words, run_card};

@@ -30,7 +30,7 @@ pub struct NotRun<'a> {
     pub stop: Stop,
 }
 
-/// How many words a card of these records and bytes has, or why it cannot be made. They are the caller's, and stay two slices.
+/// How many words a card of these records and bytes has, or why it cannot be made. Records and bytes are the caller's, and stay two slices.
 pub fn card_words(lines: &[Line], image: &[u8]) -> Result<u32, Fault>
     ensures { result ≡ card_size (length lines.now) (length image.now) }
 {
@@ -57,6 +57,7 @@ pub fn run_card<'a>(
 ) -> Result<CardRun<'a>, NotRun<'a>>
     ensures calls { MatchResult result (λ run. calls_to_run list.now lines.old image.now ≡ Ok run.calls.items) (λ none. Told none.stop (calls_to_run list.now lines.old image.now)) }
     ensures promise { MatchResult result (λ run. CardKeepsItsPromise lines.old image.now run.calls.items run.answers.items run.waiting run.lines.now) (λ none. none.lines.now ≡ lines.old) }
+    ensures caller { MatchResult result (λ run. run.lines.ghost_name ≡ lines.entry.ghost_name) (λ none. none.lines.ghost_name ≡ lines.entry.ghost_name) }
 {
     let calls = match calls_to_run(alloc, lines, image, list) {
         Ok(calls) => calls,

@@ -8,7 +8,7 @@ use Rattle.directory.specs.declared.marks.WayNumber.{WayNumber}
 use Rattle.directory.specs.declared.sets.Way.{Way}
 use Rattle.directory.specs.declared.sets.SetRecord.{SetRecord}
 use Rattle.directory.specs.Touch.{index_of, same_way, no_marks, touched_marks}
-use Rattle.directory.specs.Sets.{no_set, empty_set, way_in, touched_set, put_set}
+use Rattle.directory.specs.Sets.{no_set, way_in, touched_set, put_set}
 use Rattle.directory.specs.Dirs.{view_of, emptied, put, touched}
 use Rattle.directory.proofs.Numbering.{index_below}
 
@@ -76,6 +76,10 @@ module _ (sets : List SetRecord) (i : ℕ) (k : WayNumber) (h : i < length sets)
     way = λ j l. ways_put w (touched_marks (get_or sets i no_set).marks k) wide j l n;
     marks = λ j. marks_touched (set (get_or sets i no_set).ways (index_of k) w) j n;
   }
+
+-- A set whose four ways are invalid, and that was never touched.
+abbrev empty_set : SetRecord
+empty_set = record { ways = replicate 4 None; marks = no_marks }
 
 empty_set_lem : (P : SetRecord → Type 0) → P empty_set → P no_set → (i : ℕ) → P (get_or (replicate 256 empty_set) i no_set)
 empty_set_lem P a b i =

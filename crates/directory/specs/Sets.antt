@@ -1,5 +1,5 @@
 -- One set, and what is done to it.
-use Rattle.std.specs.Prelude.{ℕ, Bool, false, List, [], replicate, Some, None, Option, ◌==◌, slice_index_or, slice_set}
+use Rattle.std.specs.Prelude.{ℕ, Bool, false, List, [], Some, None, Option, ◌==◌, slice_index_or, slice_set}
 use Rattle.directory.specs.declared.marks.WayNumber.{WayNumber}
 use Rattle.directory.specs.declared.sets.Way.{Way}
 use Rattle.directory.specs.declared.sets.SetRecord.{SetRecord}
@@ -8,9 +8,6 @@ use Rattle.directory.specs.Touch.{index_of, no_marks, touched_marks}
 -- What stands past the end of a list of sets.
 abbrev pub no_set : SetRecord
 no_set = record { ways = []; marks = no_marks }
-
-abbrev pub empty_set : SetRecord
-empty_set = record { ways = replicate 4 None; marks = no_marks }
 
 abbrev pub filled_way : ℕ → Bool → List ℕ → Way
 filled_way tag protect words = record { protect = protect; tag = tag; words = words }

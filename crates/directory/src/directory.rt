@@ -10,7 +10,7 @@ mod questions;
 
 pub use questions::WayState;
 
-/// The directory. A line belongs to the set that its number leaves modulo 256, and has the rest of its number as its tag;
+/// The directory. A line belongs to the set of its number modulo 256, and its number div 256 is its tag;
 /// whatever is called, a tag stands at most once among the valid ways of a set.
 #[derive(Drop)]
 pub struct Directory {

@@ -1,7 +1,8 @@
 //! One set of the directory: four ways and three marks.
-ghost use Rattle.std.specs.Prelude.{◌≡◌, ℕ, ◌<◌, ◌≤◌, length, Some, None, find, is_some, count_by};
+ghost use Rattle.std.specs.Prelude.{◌≡◌, ℕ, ◌≤◌, length, Some, None, find, is_some, count_by};
 ghost use Rattle.std.specs.Option.{option_map};
 ghost use Rattle.directory.specs.Touch.{every_way};
+ghost use Rattle.directory.specs.Dirs.{place_of};
 ghost use Rattle.directory.specs.Sets.{way_in, has_tag, touched_set, put_set, installed_set, worded_way};
 
 use super::marks::{Marks, NO_MARKS, WAYS, WayNumber};
@@ -53,14 +54,13 @@ impl SetRecord {
         self.ways[way as usize] = None;
     }
 
-    /// Changes one word of the way, where it is valid.
-    pub fn change(&mut self, way: WayNumber, place: usize, value: u16)
-        requires { place < 8 }
+    /// Changes a word of the line in the way, where it is valid.
+    pub fn change(&mut self, way: WayNumber, word: u32, value: u16)
         ensures wide { length self.old.ways ≡ 4 }
-        ensures after { self.new ≡ put_set self.old way (option_map (λ w. worded_way w place value) (way_in self.old way)) }
+        ensures after { self.new ≡ put_set self.old way (option_map (λ w. worded_way w (place_of word) value) (way_in self.old way)) }
     {
         if let Some(held) = &mut self.ways[way as usize] {
-            held.words[place] = value;
+            held.words[(word % 8) as usize] = value;
         }
     }
 

@@ -1,11 +1,13 @@
-//! A walk through the cache directory of a board: what stands in the ways of some sets.
+//! The old program's start-up test: the cache is flushed, lines are filled, and the directory is walked through a board.
 #![tactic(auto)]
 
 ghost use Rattle.std.specs.Prelude.{◌≡◌, IfOk, map};
 ghost use Rattle.directory_walk.specs.Walks.{told_of, Walked};
+ghost use Rattle.directory_walk.specs.StartUp.{fill, start_up_calls, DirectoryTested};
 
-use board::Board;
+use board::{Board, Outcome, run};
 use cache::Cache;
+use calls::Call;
 use directory::WayState;
 use fault::Fault;
 use port::Port;
@@ -64,4 +66,47 @@ pub fn walk_sets<P: Port>(
         sets: ask_sets(alloc, cache, sets)?,
         valid: cache.valid_ways(),
     })
+}
+
+// A read begins the fill of a word's line, and each advance brings one of the seven other words.
+fn fill(word: u32) -> [Call; 8]
+    ensures { result ≡ fill word }
+{
+    [
+        Call::Read(word),
+        Call::Advance,
+        Call::Advance,
+        Call::Advance,
+        Call::Advance,
+        Call::Advance,
+        Call::Advance,
+        Call::Advance,
+    ]
+}
+
+// The calls of the test: the cache is flushed, and the lines of some words are filled one after another.
+fn make_calls(alloc: Global, words: &[u32]) -> Result<Vec<Call>, AllocError>
+    ensures { IfOk result (λ calls. calls.items ≡ start_up_calls words.now) }
+{
+    let mut calls = Vec::new(alloc);
+    calls.push(Call::Flush)?;
+    for word in words {
+        calls.extend_from_slice(&fill(*word))?;
+    }
+    Ok(calls)
+}
+
+/// Makes the test on a board over a cache over a port: fills the lines of some words, and walks some sets.
+pub fn test_directory<P: Port + Drop>(
+    alloc: Global,
+    below: P,
+    words: &[u32],
+    sets: &[u32],
+) -> Result<(Outcome<Cache<P>>, Walk), AllocError>
+    ensures { IfOk result (λ tested. DirectoryTested P.Port below words.now sets.now tested.0.answers.items tested.0.board.mode tested.0.board.port tested.1) }
+{
+    let calls = make_calls(alloc, words)?;
+    let outcome = run(alloc, Cache::new(below), &calls)?;
+    let walk = walk_sets(alloc, &outcome.board, sets)?;
+    Ok((outcome, walk))
 }

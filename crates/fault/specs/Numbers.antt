@@ -3,7 +3,7 @@ use Rattle.std.specs.Prelude.{ℕ}
 use Rattle.fault.specs.declared.Refusal.{Refusal}
 use Rattle.fault.specs.declared.Refusal.TheVariants.{PastEnd, BadLanes, Unreadable, Locked, Granted, NotLocked, NotGranted, UnfitSize, ListLength, ListWord}
 
--- Two reasons share the number 6: what they have in common is that the caller lacks the state its call needs.
+-- Two reasons share the number 6: in both the board is not in the mode that the call needs.
 abbrev pub number_of : Refusal → ℕ
 number_of PastEnd = 1
 number_of BadLanes = 2

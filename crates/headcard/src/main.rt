@@ -1,13 +1,13 @@
 //! Reads a call list from standard input, runs it on the card, and prints each answer.
 #![tactic(auto)]
 
-use card::{CardRun, Printed, Stop, card_words, run_card, stock_image, stock_lines};
+use card::{CardRun, MOST_BYTES, Printed, Stop, card_words, run_card, stock_image, stock_lines};
 use std::alloc::AllocError;
 use std::io;
 use std::io::Read;
 
 /// One byte more than a list may have, so that a longer one is seen to be too long.
-const INPUT_BYTES: u64 = 16_385;
+const INPUT_BYTES: u64 = MOST_BYTES as u64 + 1;
 
 // Prints each answer, and how many writes wait in the end.
 fn print_run(rt: &HostRuntime, run: &CardRun) -> io::Result<()> {

@@ -1,2 +1,3 @@
 pub mod Joint
 pub mod Steps
+pub mod Runs

@@ -1,4 +1,4 @@
-//! Tries piles of stages in every order: calls that fall between two words of one fill, on two boards side by side.
+//! Tries cache and buffer piled either way, two caches, and no stage: calls that fall between two words of one fill, on two boards side by side.
 #![tactic(auto)]
 
 use banks::{Line, RamBank};

@@ -1,9 +1,10 @@
 -- What passes a stage's own checks is taken below, where only the floor differs.
 use Rattle.std.proofs.Common.{◌≡◌, ℕ, ◌<◌, Bool, true, false, cond, ltb, Ok, Err, Result, sym, refl, ap, ◌∙◌, subst, arith}
+use Rattle.std.specs.Result.{result_and}
 use Rattle.std.proofs.lemmas.Bool.{ltb-true}
 use Rattle.fault.specs.declared.Fault.{Fault}
 use Rattle.port.specs.Memory.{State, raised}
-use Rattle.port.specs.Meaning.{within, writable, laned, then_ok, past_end, bad_lanes, ByAnswer}
+use Rattle.port.specs.Meaning.{within, writable, laned, past_end, bad_lanes, ByAnswer}
 
 abbrev pub Answer : Type 0
 Answer = Result (Unit {0}) Fault
@@ -32,11 +33,11 @@ test_true : (b : Bool) (e : Fault) → tested b e ≡ passed → b ≡ true
 test_true true e h = refl
 test_true false e h = not_refused e h
 
-tests_any : (a b : Bool) (d e f g : Fault) → then_ok (tested a d) (tested b e) ≡ passed → then_ok (tested a f) (tested b g) ≡ passed
+tests_any : (a b : Bool) (d e f g : Fault) → result_and (tested a d) (tested b e) ≡ passed → result_and (tested a f) (tested b g) ≡ passed
 tests_any true b d e f g h = test_any b e g h
 tests_any false b d e f g h = not_refused d h
 
-tests_true : (a b : Bool) (d e : Fault) → then_ok (tested a d) (tested b e) ≡ passed → a ≡ true
+tests_true : (a b : Bool) (d e : Fault) → result_and (tested a d) (tested b e) ≡ passed → a ≡ true
 tests_true true b d e h = refl
 tests_true false b d e h = not_refused d h
 

@@ -10,6 +10,10 @@ pub applied-append : (p : ℕ → Bool) (xs ys : List Store) (m : Memory) → ap
 applied-append p [] ys m = refl
 applied-append p (x ∷ xs) ys m = applied-append p xs ys (stored p x m)
 
+pub applied_readable : (p : ℕ → Bool) (ws : List Store) (m : Memory) → (applied p ws m).readable ≡ m.readable
+applied_readable p [] m = refl
+applied_readable p (w ∷ ws) m = applied_readable p ws (stored p w m)
+
 pub settles_none : (s : State) → Settles s s
 settles_none s = record { gone = []; rest = s.waiting; line = refl; after = refl }
 
@@ -52,10 +56,6 @@ settles_all s t a e =
 
 pub settling_is_lawful : SettlingIsLawful
 settling_is_lawful = record { composes = settles_then; unseen = seen_kept; commutes = settles_under; ends = settles_all }
-
-pub none_waits : {A : Type 0} (l : List A) → length l ≡ 0 → l ≡ []
-none_waits [] e = refl
-none_waits (x ∷ l) e = absurd (omega arith)
 
 -- where nothing waits, a write that is stored at once has joined and settled
 pub stored_at_once : (s t : State) (w : Store) → s.waiting ≡ [] → t ≡ outside w s → Settles (posted (w ∷ []) s) t

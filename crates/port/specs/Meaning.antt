@@ -1,8 +1,8 @@
 -- What each call of a port answers, and what it does to the port's state.
-use Rattle.std.specs.Prelude.{◌≡◌, ℕ, ◌/◌, ◌<◌, min, Bool, cond, ◌&&◌, List, ◌++◌, length, Ok, Err, Result, nat_le, nat_lt}
+use Rattle.std.specs.Prelude.{◌≡◌, ◌≢◌, ℕ, ◌/◌, ◌<◌, min, Bool, cond, ◌&&◌, List, ◌++◌, length, Ok, Err, Result, nat_le, nat_lt}
+use Rattle.std.specs.Result.{result_and}
 use Rattle.fault.specs.declared.Fault.{Fault}
-use Rattle.fault.specs.declared.Refusal.{Refusal}
-use Rattle.fault.specs.declared.Refusal.TheVariants.{PastEnd, BadLanes, Unreadable, Locked, Granted, NotLocked, NotGranted, UnfitSize, ListLength, ListWord}
+use Rattle.fault.specs.declared.Refusal.TheVariants.{PastEnd, BadLanes, Unreadable}
 use Rattle.port.specs.declared.Store.{Store}
 use Rattle.port.specs.Memory.{Memory, Facts, State, seen, settling}
 
@@ -16,10 +16,6 @@ bad_lanes place floor = record { refusal = BadLanes; place = place; floor = floo
 abbrev pub unreadable : ℕ → Fault
 unreadable place = record { refusal = Unreadable; place = place; floor = 0 }
 
-abbrev pub then_ok : {X Y : Type 0} → Result X Fault → Result Y Fault → Result Y Fault
-then_ok (Ok x) r = r
-then_ok (Err e) r = Err e
-
 -- The checks of every port: range first, then lanes.
 abbrev pub within : ℕ → ℕ → ℕ → Result (Unit {0}) Fault
 within place end floor = cond (nat_lt place end) (Ok tt) (Err (past_end place floor))
@@ -29,11 +25,11 @@ laned lanes = nat_le 1 lanes && nat_le lanes 3
 
 abbrev pub writable : ℕ → ℕ → ℕ → ℕ → Result (Unit {0}) Fault
 writable place lanes end floor =
-    then_ok (within place end floor) (cond (laned lanes) (Ok tt) (Err (bad_lanes place floor)))
+    result_and (within place end floor) (cond (laned lanes) (Ok tt) (Err (bad_lanes place floor)))
 
 -- What is told of a word of some memory.
 abbrev pub told : Facts → Memory → ℕ → Result ℕ Fault
-told f m w = then_ok (within w f.words f.floor) (cond (m.readable w) (Ok (m.word w)) (Err (unreadable w)))
+told f m w = result_and (within w f.words f.floor) (cond (m.readable w) (Ok (m.word w)) (Err (unreadable w)))
 
 -- The answers of a port's calls and questions.
 abbrev pub read_answer : State → ℕ → Result ℕ Fault
@@ -50,7 +46,7 @@ snoop_answer s w = within w s.facts.words s.facts.floor
 
 abbrev pub marks_answer : State → ℕ → Result (Bool × Bool) Fault
 marks_answer s line =
-    then_ok (within line (s.facts.words / 8) s.facts.floor) (Ok (s.facts.cacheable line, s.protected line))
+    result_and (within line (s.facts.words / 8) s.facts.floor) (Ok (s.facts.cacheable line, s.protected line))
 
 -- The waiting count stops at the largest number it can show.
 abbrev pub waiting_answer : State → ℕ
@@ -73,19 +69,8 @@ abbrev pub ByAnswer : Result (Unit {0}) Fault → Type 0 → Type 0 → Type 0
 ByAnswer (Ok _) accepted refused = accepted
 ByAnswer (Err _) accepted refused = refused
 
--- A read that is refused leaves the whole port as it was, unless its word is unreadable: then writes may have settled on the way.
-abbrev pub KeptAt : Refusal → Type 0 → Type 0
-KeptAt PastEnd same = same
-KeptAt BadLanes same = same
-KeptAt Unreadable same = Unit {0}
-KeptAt Locked same = same
-KeptAt Granted same = same
-KeptAt NotLocked same = same
-KeptAt NotGranted same = same
-KeptAt UnfitSize same = same
-KeptAt ListLength same = same
-KeptAt ListWord same = same
-
-abbrev pub Kept : {P : Type 0} → Result ℕ Fault → P → P → Type 0
+-- What is refused leaves the whole port as it was, unless a word was found unreadable: then writes may have settled on the way, and a
+-- stage may have changed what it keeps.
+abbrev pub Kept : {X P : Type 0} → Result X Fault → P → P → Type 0
 Kept (Ok _) p q = Unit {0}
-Kept (Err fault) p q = KeptAt fault.refusal (q ≡ p)
+Kept (Err fault) p q = (fault.refusal ≢ Unreadable) → q ≡ p

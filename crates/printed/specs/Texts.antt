@@ -1,4 +1,4 @@
--- The text of every line that the program prints.
+-- The text of every line that headcard prints.
 use Rattle.std.specs.Prelude.{ℕ, ◌/◌, ◌%◌, true, List, [], ◌∷◌, ◌++◌, Ok, Err, codes, decimal, Result}
 use Rattle.std.specs.Fmt.{digit_glyph}
 use Rattle.fault.specs.declared.Fault.{Fault}

@@ -1,4 +1,4 @@
-//! The lines that the program prints.
+//! The lines that headcard prints.
 #![tactic(auto)]
 
 ghost use Rattle.std.specs.Prelude.{◌≡◌, IfOk, Some, string_bytes};

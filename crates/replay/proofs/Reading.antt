@@ -4,15 +4,17 @@ use mir.Val.{bool_byte}
 use Rattle.fault.specs.declared.Fault.{Fault}
 use Rattle.calls.specs.declared.call.Call.{Call}
 use Rattle.calls.specs.declared.call.Call.TheVariants.{Give}
+use Rattle.port.specs.declared.Port.{Ghosts}
 use Rattle.port.specs.Memory.{Memory, State, seen, stored}
+use Rattle.book.specs.declared.answer.Mode.{Mode}
 use Rattle.book.specs.declared.answer.Mode.TheVariants.{Free, Granted}
 use Rattle.book.specs.declared.answer.Answer.{Answer}
 use Rattle.book.specs.declared.answer.Answer.TheVariants.{Done, Word}
 use Rattle.book.specs.Book.{first}
-use Rattle.book.specs.Runs.{answers, Admitted}
+use Rattle.book.specs.Promise.{NeverAnOldDigit}
 use Rattle.replay.specs.declared.row.Row.{Row}
 use Rattle.replay.specs.Rows.{blank, row, row_at}
-use Rattle.replay.specs.Incident.{hundreds, tens, ones, reads_row, clearing, incident_calls, digit, last_reading, RowStands, AnsweredByTheBook, RowsAreTheAnswers, ReadsTheNewestRow}
+use Rattle.replay.specs.Incident.{hundreds, tens, ones, reads_row, clearing, incident_calls, digit, last_reading, RowStands, MadeOnABoard, RowsAreTheAnswers, ReadsTheNewestRow}
 use Rattle.replay.proofs.Forcing.{still, AllForced, over, then, forced_answers, unposted, reads, flushes, advances, asks, clears, gives}
 
 -- Memory in which the row's words are a, b and c.
@@ -79,13 +81,9 @@ one_later : (clear : Bool) → 11 + bool_byte clear ≡ last_reading clear
 one_later true = refl
 one_later false = refl
 
-pub as_answered : (s : State) (clear : Bool) (cs : List Call) (rs : List (Result Answer Fault)) (ks : List ℕ)
-    → cs ≡ incident_calls clear → Admitted (first s) cs ks → rs ≡ answers (first s) cs ks → AnsweredByTheBook s (incident_calls clear) rs
-as_answered s clear cs rs ks list admitted told = record {
-  counts = ks;
-  admitted = subst (λ (x : List Call). Admitted (first s) x ks) list admitted;
-  as_told = told ∙ ap (λ (x : List Call). answers (first s) x ks) list;
-}
+pub made_with : {P : Type 0} (G : Ghosts P) (p : P) (cs ds : List Call) (rs : List (Result Answer Fault)) (m : Mode) (q : P)
+    → cs ≡ ds → NeverAnOldDigit G p cs rs m q → MadeOnABoard G p ds rs
+made_with G p cs ds rs m q list h = record { mode = m; left = q; promise = subst (λ (x : List Call). NeverAnOldDigit G p x rs m q) list h }
 
 -- The rows, where the answers were looked at twice.
 pub rows_taken : (clear : Bool) (rs one two : List (Result Answer Fault)) (later : ℕ) (before after : Option Row) → one ≡ rs → two ≡ rs → later ≡ bool_byte clear
@@ -95,10 +93,11 @@ rows_taken clear rs one two later before after e f shift early late = record {
   from_last_reading = late ∙ (ap (λ (x : List (Result Answer Fault)). row_at x (11 + later)) f ∙ ap (row_at rs) (ap (λ (n : ℕ). 11 + n) shift ∙ one_later clear));
 }
 
-pub rows_read : (s : State) (clear : Bool) (rs : List (Result Answer Fault)) (before after : Option Row)
-    → AnsweredByTheBook s (incident_calls clear) rs → RowsAreTheAnswers clear rs before after → RowStands s → ReadsTheNewestRow clear before after
-rows_read s clear rs before after book taken stands =
-    let all : rs ≡ incident_answers clear = book.as_told ∙ forced_answers book.counts (incident_forced s clear stands) book.admitted in
+pub rows_read : {P : Type 0} (G : Ghosts P) (p : P) (clear : Bool) (rs : List (Result Answer Fault)) (before after : Option Row)
+    → MadeOnABoard G p (incident_calls clear) rs → RowsAreTheAnswers clear rs before after → RowStands (G.state p) → ReadsTheNewestRow clear before after
+rows_read G p clear rs before after made taken stands =
+    let run = made.promise in
+    let all : rs ≡ incident_answers clear = run.answers_are_the_books ∙ forced_answers run.counts (incident_forced (G.state p) clear stands) run.admitted in
     record {
       as_stored = taken.first_reading ∙ ap (λ (x : List (Result Answer Fault)). row_at x 3) all;
       as_cleared = taken.from_last_reading ∙ (ap (λ (x : List (Result Answer Fault)). row_at x (last_reading clear)) all ∙ last_row clear);

@@ -3,11 +3,12 @@ use Rattle.std.specs.Prelude.{◌≡◌, ℕ, ◌<◌, Bool, true, false, cond, 
 use Rattle.fault.specs.declared.Fault.{Fault}
 use Rattle.calls.specs.declared.call.Call.{Call}
 use Rattle.calls.specs.declared.call.Call.TheVariants.{Read, Unposted, Advance, Ask, MasterWrite, Give, Flush}
+use Rattle.port.specs.declared.Port.{Ghosts}
 use Rattle.port.specs.declared.Store.{Store}
 use Rattle.port.specs.Memory.{State, seen, line_of}
+use Rattle.book.specs.declared.answer.Mode.{Mode}
 use Rattle.book.specs.declared.answer.Answer.{Answer}
-use Rattle.book.specs.Book.{first}
-use Rattle.book.specs.Runs.{answers, Admitted}
+use Rattle.book.specs.Promise.{NeverAnOldDigit}
 use Rattle.replay.specs.declared.row.Row.{Row}
 use Rattle.replay.specs.Rows.{blank, row, row_at}
 
@@ -48,11 +49,11 @@ pub record RowStands (s : State) : Type 0 where
   pub ones_readable : (seen s).readable ones ≡ true
   pub unprotected : s.protected (line_of hundreds) ≡ false
 
--- The answers are those of the board's book, for some counts of settled writes that it allows.
-pub record AnsweredByTheBook (s : State) (cs : List Call) (rs : List (Result Answer Fault)) : Type 0 where
-  pub counts : List ℕ
-  pub admitted : Admitted (first s) cs counts
-  pub as_told : rs ≡ answers (first s) cs counts
+-- The calls were made on a board on the port, with these answers and with the whole promise about old digits.
+pub record MadeOnABoard {P : Type 0} (G : Ghosts P) (p : P) (cs : List Call) (rs : List (Result Answer Fault)) : Type 0 where
+  pub mode : Mode
+  pub left : P
+  pub promise : NeverAnOldDigit G p cs rs mode left
 
 -- The answers to the last reading of the row begin here.
 abbrev pub last_reading : Bool → ℕ

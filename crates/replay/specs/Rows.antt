@@ -1,5 +1,5 @@
 -- Rows of digits: how they are shown, and how they are taken out of answers.
-use Rattle.std.specs.Prelude.{ℕ, ◌+◌, cond, List, Some, None, Ok, Err, Option, Result, ◌==◌, nat_lt, slice_index_or}
+use Rattle.std.specs.Prelude.{ℕ, ◌+◌, cond, List, [], ◌∷◌, Some, None, Ok, Err, Option, Result, ◌==◌, nat_lt, slice_index_or}
 use Rattle.fault.specs.declared.Fault.{Fault}
 use Rattle.book.specs.declared.answer.Answer.{Answer}
 use Rattle.book.specs.declared.answer.Answer.TheVariants.{Done, Word}
@@ -29,6 +29,10 @@ row_of None tens ones = None
 row_of (Some h) None ones = None
 row_of (Some h) (Some t) None = None
 row_of (Some h) (Some t) (Some o) = Some (row h t o)
+
+-- What the display shows of a row.
+abbrev pub row_text : Row → List ℕ
+row_text r = glyph_of r.hundreds ∷ glyph_of r.tens ∷ glyph_of r.ones ∷ []
 
 -- The row that was answered from a place on.
 abbrev pub row_at : List (Result Answer Fault) → ℕ → Option Row

@@ -3,7 +3,7 @@
 
 ghost use Rattle.std.specs.Prelude.{◌≡◌, IfOk};
 ghost use Rattle.replay.specs.Rows.{word_at, row_at};
-ghost use Rattle.replay.specs.Incident.{incident_calls, RowStands, AnsweredByTheBook, RowsAreTheAnswers, ReadsTheNewestRow};
+ghost use Rattle.replay.specs.Incident.{incident_calls, RowStands, MadeOnABoard, RowsAreTheAnswers, ReadsTheNewestRow};
 
 use board::run;
 use book::Answer;
@@ -67,10 +67,10 @@ const FROM_THERE_ON: [Call; 4] = [
 ];
 
 /// The answers to the first reading of the row begin here.
-const FIRST_READING: u8 = 3;
+const FIRST_READING: usize = 3;
 
 /// The answers to the last one begin here, and one later where the display clears the hundreds.
-const LAST_READING: u8 = 11;
+const LAST_READING: usize = 11;
 
 /// The calls, their answers, and the row as it was read before and after the display had the bus. Calls and answers are two lists, as the promise
 /// about them speaks of two.
@@ -106,10 +106,9 @@ fn word_at(answers: &[Result<Answer, Fault>], place: usize) -> Option<u16>
 }
 
 // The row that was answered from a place on.
-fn row_at(answers: &[Result<Answer, Fault>], first: u8) -> Option<Row>
+fn row_at(answers: &[Result<Answer, Fault>], first: usize) -> Option<Row>
     ensures { result ≡ row_at answers.now first }
 {
-    let first = first as usize;
     Some(Row {
         hundreds: word_at(answers, first)?,
         tens: word_at(answers, first + 1)?,
@@ -120,7 +119,7 @@ fn row_at(answers: &[Result<Answer, Fault>], first: u8) -> Option<Row>
 /// Replays the incident on a board over a port, with the display's clear or without it.
 pub fn replay<P: Port + Drop>(alloc: Global, port: P, clears: bool) -> Result<Replayed, AllocError>
     ensures calls { IfOk result (λ told. told.calls.items ≡ incident_calls clears) }
-    ensures answers { IfOk result (λ told. AnsweredByTheBook (P.state port) (incident_calls clears) told.answers.items) }
+    ensures made { IfOk result (λ told. MadeOnABoard P.Port port (incident_calls clears) told.answers.items) }
     ensures taken { IfOk result (λ told. RowsAreTheAnswers clears told.answers.items told.before told.after) }
     ensures rows { IfOk result (λ told. RowStands (P.state port) → ReadsTheNewestRow clears told.before told.after) }
 {
@@ -128,7 +127,7 @@ pub fn replay<P: Port + Drop>(alloc: Global, port: P, clears: bool) -> Result<Re
     let outcome = run(alloc, port, &calls)?;
     let answers = outcome.answers;
     let before = row_at(&answers, FIRST_READING);
-    let after = row_at(&answers, LAST_READING + u8::from(clears));
+    let after = row_at(&answers, LAST_READING + usize::from(clears));
     Ok(Replayed {
         calls,
         answers,

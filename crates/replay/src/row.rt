@@ -1,6 +1,6 @@
 //! A row of three digits, as the program of a pump head keeps it and as the display shows it.
-ghost use Rattle.std.specs.Prelude.{◌≡◌};
-ghost use Rattle.replay.specs.Rows.{glyph_of};
+ghost use Rattle.std.specs.Prelude.{◌≡◌, Some};
+ghost use Rattle.replay.specs.Rows.{glyph_of, row_text};
 
 use std::fmt;
 
@@ -27,6 +27,8 @@ fn glyph(digit: u16) -> u8
 }
 
 impl fmt::Display for Row {
+    ghost output = { λ row. Some (row_text row) };
+
     fn fmt<W: fmt::Write>(&self, f: &mut fmt::Formatter<W>) -> fmt::Result {
         let hundreds = char::from(glyph(self.hundreds));
         let tens = char::from(glyph(self.tens));

@@ -1,19 +1,21 @@
 -- What a buffer reads through the port below, and which writes that port takes.
 use Rattle.std.proofs.Common.{◌≡◌, ℕ, cond, List, [], ◌∷◌, ◌++◌, Ok, Err, Option, Result, sym, ap, ◌∙◌, subst}
+use Rattle.std.specs.Option.{option_to_list as left}
+use Rattle.std.specs.Result.{result_and}
 use Rattle.fault.specs.declared.Fault.{Fault}
 use Rattle.port.specs.declared.Store.{Store}
 use Rattle.port.specs.Memory.{Memory, Facts, State, seen, posted}
-use Rattle.port.specs.Meaning.{within, writable, then_ok, told, read_answer, unreadable, Settles}
+use Rattle.port.specs.Meaning.{within, writable, told, read_answer, unreadable, Settles}
 use Rattle.port.proofs.Settling.{seen_kept}
 use Rattle.port.proofs.Checking.{Answer}
-use Rattle.write_buffer.specs.Queues.{leaving, joined, left}
+use Rattle.write_buffer.specs.Queues.{leaving, joined}
 use Rattle.write_buffer.specs.Taking.{Takes}
 use Rattle.write_buffer.proofs.Queueing.{left_line}
 
 -- what is told of a word within range, whatever the floor
 pub told_within : (f : Facts) (m : Memory) (w : ℕ) → within w f.words f.floor ≡ Ok tt →
     told f m w ≡ cond (m.readable w) (Ok (m.word w)) (Err (unreadable w))
-told_within f m w e = ap (λ (r : Answer). then_ok r (cond (m.readable w) (Ok (m.word w)) (Err (unreadable w)))) e
+told_within f m w e = ap (λ (r : Answer). result_and r (cond (m.readable w) (Ok (m.word w)) (Err (unreadable w)))) e
 
 -- what is read below once all was sent there
 pub reads_through : (s t : State) (ws : List Store) (w : ℕ) (r : Result ℕ Fault) → Settles (posted ws s) t →

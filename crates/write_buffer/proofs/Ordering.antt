@@ -1,5 +1,6 @@
 -- Nothing is lost between a buffer and the port below.
 use Rattle.std.proofs.Common.{◌≡◌, List, [], ◌∷◌, ◌++◌, Ok, Err, sym, refl, ap, ◌∙◌, subst, append_assoc, append-nil}
+use Rattle.std.specs.Option.{option_to_list as left}
 use Rattle.port.specs.declared.Port.{Ghosts}
 use Rattle.port.specs.declared.Store.{Store}
 use Rattle.port.specs.Meaning.{ByAnswer}
@@ -7,7 +8,7 @@ use Rattle.port.specs.Steps.{Step, reads, writes, advances, outsides, snoops, fl
 use Rattle.port.proofs.Checking.{Answer}
 use Rattle.port.proofs.Chains.{chain_append}
 use Rattle.write_buffer.specs.declared.buffer.WriteBuffer.{WriteBuffer}
-use Rattle.write_buffer.specs.Queues.{queued, leaving, left}
+use Rattle.write_buffer.specs.Queues.{queued, leaving}
 use Rattle.write_buffer.specs.Buffering.{sends, PassesOn, Joins, SendsAndReads, SendsOn, settled, waited, AdvancesOne, below, oldest, idle, Does}
 use Rattle.write_buffer.specs.Runs.{written_by, written, heard_by, heard, Below, NothingIsLost}
 use Rattle.write_buffer.proofs.Queueing.{oldest_leaves_first}

@@ -1,9 +1,10 @@
 -- How the four places of a queue hold a line.
 use Rattle.std.proofs.Common.{◌≡◌, ℕ, suc, ◌≤◌, Bool, true, false, cond, ltb, List, [], ◌∷◌, ◌++◌, length, Some, None, Option, refl, ap, ◌∙◌, arith, length-append, length-take}
+use Rattle.std.specs.Option.{option_to_list as left}
 use Rattle.std.proofs.lemmas.Bool.Decides.{nat_tests}
 use Rattle.port.specs.declared.Store.{Store}
 use Rattle.write_buffer.specs.declared.queue.Queue.{Queue}
-use Rattle.write_buffer.specs.Queues.{queued, oldest, younger, leaving, joined, left, OldestLeavesFirst}
+use Rattle.write_buffer.specs.Queues.{queued, oldest, younger, leaving, joined, OldestLeavesFirst}
 
 whole_at : (b : Bool) (w : Store) (ws : List Store) →
     left (cond b None (oldest ws)) ++ (cond b ws (younger ws) ++ (w ∷ [])) ≡ ws ++ (w ∷ [])

@@ -1,11 +1,12 @@
 -- How a queue over a port sends its writes below.
 use Rattle.std.proofs.Common.{◌≡◌, ◌<◌, ◌≤◌, List, [], ◌∷◌, ◌++◌, length, Ok, Option, sym, ap, ◌∙◌, subst, append_assoc, arith, length-append}
+use Rattle.std.specs.Option.{option_to_list as left}
 use Rattle.port.specs.declared.Store.{Store}
 use Rattle.port.specs.Memory.{State, posted, raised}
 use Rattle.port.specs.Meaning.{Settles, Advances}
 use Rattle.port.specs.Steps.{Step, writes, Chain, done, then}
 use Rattle.port.proofs.Settling.{applied-append, settles_then, settles_under, settles_raised, settles_length, posted_none, seen_kept}
-use Rattle.write_buffer.specs.Queues.{leaving, left}
+use Rattle.write_buffer.specs.Queues.{leaving}
 use Rattle.write_buffer.specs.Buffering.{buffered, sends, BufferingIsLawful}
 use Rattle.write_buffer.proofs.Queueing.{at_most_four}
 

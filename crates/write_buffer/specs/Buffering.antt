@@ -1,5 +1,6 @@
 -- What a write buffer means, and what its calls do: to its queue, and by which calls to the port below.
 use Rattle.std.specs.Prelude.{◌≡◌, ℕ, ◌<◌, ◌≤◌, List, [], ◌∷◌, ◌++◌, length, Ok, Result}
+use Rattle.std.specs.Option.{option_to_list as left}
 use Rattle.fault.specs.declared.Fault.{Fault}
 use Rattle.port.specs.declared.Port.{Ghosts}
 use Rattle.port.specs.declared.Store.{Store}
@@ -8,7 +9,7 @@ use Rattle.port.specs.Meaning.{within, Settles, ByAnswer}
 use Rattle.port.specs.Steps.{Step, reads, writes, advances, outsides, snoops, flushes, Chain}
 use Rattle.write_buffer.specs.declared.buffer.WriteBuffer.{WriteBuffer}
 use Rattle.write_buffer.specs.declared.queue.Queue.{Queue}
-use Rattle.write_buffer.specs.Queues.{queued, leaving, joined, left}
+use Rattle.write_buffer.specs.Queues.{queued, leaving, joined}
 
 -- What a buffer shows of the port below: its line goes on with the queue.
 abbrev pub buffered : State → List Store → State

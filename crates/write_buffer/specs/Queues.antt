@@ -1,5 +1,6 @@
 -- The line of writes in a queue, and how it changes.
 use Rattle.std.specs.Prelude.{◌≡◌, ◌≤◌, cond, List, [], ◌∷◌, ◌++◌, length, take, Some, None, Option, nat_lt}
+use Rattle.std.specs.Option.{option_to_list as left}
 use Rattle.port.specs.declared.Store.{Store}
 use Rattle.write_buffer.specs.declared.queue.Queue.{Queue}
 
@@ -24,11 +25,6 @@ staying ws = cond (nat_lt (length ws) 4) ws (younger ws)
 
 abbrev pub joined : Store → List Store → List Store
 joined w ws = staying ws ++ (w ∷ [])
-
--- The writes that left, as a line.
-abbrev pub left : Option Store → List Store
-left None = []
-left (Some w) = w ∷ []
 
 pub record OldestLeavesFirst : Type 0 where
   -- what leaves and what stays make up the line with its new write, in order: none is lost, doubled or passed

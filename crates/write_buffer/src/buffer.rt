@@ -21,7 +21,7 @@ impl<P: Port> WriteBuffer<P> {
     ghost use Rattle.write_buffer.specs.Buffering.{BufferingIsLawful};
     ghost use Rattle.write_buffer.specs.Runs.{NothingIsLost};
 
-    /// A buffer over a port, in which nothing waits yet.
+    /// A buffer over a port, with an empty queue.
     pub fn new(below: P) -> WriteBuffer<P>
         ensures below { result.below ≡ below }
         ensures queue { queued result.queue ≡ [] }

@@ -65,6 +65,6 @@ impl Directory {
         ensures after { view self.new ≡ changed (view self.old) word way value }
         ensures law { ChangeMovesNoLine (view self.old) (view self.new) }
     {
-        self.sets[set_of(word / 8)].change(way, (word % 8) as usize, value);
+        self.sets[set_of(word / 8)].change(way, word, value);
     }
 }

@@ -1,6 +1,7 @@
 use Rattle.std.proofs.Common.{◌≡◌, ◌<◌, [], length, arith}
+use Rattle.std.proofs.lemmas.List.{nil_from_length}
 use Rattle.port.specs.Steps.{empty, more}
-use Rattle.port.proofs.Settling.{settles_then, settles_all, settling_is_lawful, none_waits}
+use Rattle.port.proofs.Settling.{settles_then, settles_all, settling_is_lawful}
 use Rattle.port.proofs.settle_all.Goals as goal
 
 pub loop-port-preserved : goal.loop-port-preserved
@@ -12,7 +13,7 @@ loop-port-preserved g c =
 
 pub returns : goal.returns
 returns g c =
-    let none : (g.P.Port.state c.loop-port.port).waiting ≡ [] = none_waits (g.P.Port.state c.loop-port.port).waiting (omega arith) in
+    let none : (g.P.Port.state c.loop-port.port).waiting ≡ [] = nil_from_length (g.P.Port.state c.loop-port.port).waiting (omega arith) in
     record {
       after = settles_all _ _ c.loop-port.invariant.0 none;
       did = c.loop-port.invariant.1 c.loop-port.port (empty none);

@@ -1,6 +1,6 @@
 use Rattle.std.proofs.Common.{◌≡◌, ◌<◌, [], length, arith, rules}
 use Rattle.port.specs.Steps.{done, then}
-use Rattle.port.proofs.Settling.{none_waits}
+use Rattle.std.proofs.lemmas.List.{nil_from_length}
 use Rattle.write_buffer.specs.Buffering.{settled, waited}
 use Rattle.write_buffer.proofs.SendingLemmas.{sent_settles}
 use Rattle.write_buffer.proofs.sending.send_on.Goals as goal
@@ -16,5 +16,5 @@ returns-then-waiting-gt0-clause-did g c =
 
 pub returns-else-waiting-gt0-clause-did : goal.returns-else-waiting-gt0-clause-did
 returns-else-waiting-gt0-clause-did g c =
-    let none : (g.P.Port.state c.send.new.below).waiting ≡ [] = none_waits _ (omega arith) in
+    let none : (g.P.Port.state c.send.new.below).waiting ≡ [] = nil_from_length _ (omega arith) in
     search (rules, settled, then, done)
