@@ -1,4 +1,4 @@
-use Rattle.std.proofs.Common.{◌∙◌, ◌≡◌}
+use Rattle.std.proofs.Common.{◌∙◌}
 use Rattle.calls.specs.Format.{meaning}
 use Rattle.card.proofs.Records.{names_kept, name_kept, records_below, bytes_below, handed_back, promise_kept}
 use Rattle.card.proofs.whole.run_card.Goals as goal
