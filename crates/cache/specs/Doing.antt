@@ -3,6 +3,7 @@ use Rattle.std.specs.Prelude.{◌≡◌, ℕ, Result}
 use Rattle.std.specs.Option.{ok_or}
 use Rattle.fault.specs.declared.Fault.{Fault}
 use Rattle.port.specs.declared.Port.{Ghosts}
+use Rattle.port.specs.Memory.{raised}
 use Rattle.port.specs.Meaning.{past_end, within, ByAnswer}
 use Rattle.port.specs.Steps.{Step, reads, writes, advances, outsides, snoops, flushes, Chain}
 use Rattle.directory.specs.declared.directory.questions.WayState.{WayState}
@@ -37,3 +38,7 @@ Does b advances c = TakesTurn (advance_turn (shows_below b) (tables_of b)) b c
 Does b (outsides w r) c = ByAnswer r (TakesTurn (outside_turn (tables_of b) w r) b c) (c ≡ b)
 Does b (snoops w r) c = ByAnswer r (TakesTurn (snoop_turn (tables_of b) w r) b c) (c ≡ b)
 Does b flushes c = TakesTurn flush_turn b c
+
+-- A cache as a port: what it means, and what its calls do.
+abbrev pub cache_ghosts : {P : Type 0} (G : Ghosts P) → Ghosts (Cache P G)
+cache_ghosts G = record { state = λ c. raised (G.state c.below); does = Does }

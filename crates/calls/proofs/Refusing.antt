@@ -348,11 +348,9 @@ refused_from ws i small m =
 
 -- The length first, and then the words.
 
-abbrev Fits : ℕ → Type 0
-Fits n = (n % 4 ≡ 0) × (n ≤ 16384)
-
-fits_or_not : (n : ℕ) → Fits n ⊎ ((Fits n → ⊥) × (length_in n ≡ Err unfit_length))
-fits_or_not n =
+fits_or_not : (bytes : List ℕ) → LengthFits bytes ⊎ ((LengthFits bytes → ⊥) × (length_in (length bytes) ≡ Err unfit_length))
+fits_or_not bytes =
+    let n : ℕ = length bytes in
     elim (dec_lt 0 (n % 4)) [
       | yes part ↦ inr (λ h. let z : n % 4 ≡ 0 = h.0 in omega arith, grind (arith, nat_tests))
       | no part ↦ elim (dec_lt 16384 n) [
@@ -371,7 +369,7 @@ module _ (bytes : List ℕ) (small : Bytes bytes) where
   list_refused : (fault : Fault) → WrongWith bytes fault → meaning bytes ≡ Err fault
   list_refused fault =
       ⊎_elim
-      (λ l. ⊎_elim (λ fits. absurd (l.0 fits)) (λ u. by_length (Err unfit_length) u.1 ∙ ap Err (sym l.1)) (fits_or_not (length bytes)))
+      (λ l. ⊎_elim (λ fits. absurd (l.0 fits)) (λ u. by_length (Err unfit_length) u.1 ∙ ap Err (sym l.1)) (fits_or_not bytes))
       (λ w. by_words w.0 ∙ refused_from (words bytes) w.1.0 (words_below bytes small) w.1.1 ∙ ap Err (sym w.1.2))
 
   list_told : (fault : Fault) → meaning bytes ≡ Err fault → WrongWith bytes fault
@@ -379,7 +377,7 @@ module _ (bytes : List ℕ) (small : Bytes bytes) where
       let word : LengthFits bytes → Told 0 fault (words bytes) = λ fits. told_from 0 (words bytes) fault (words_below bytes small) (sym (by_words fits) ∙ e) in
       ⊎_elim
       (λ fits. inr (fits, ((word fits).0, (word fits).1, (word fits).2 ∙ ap malformed (omega arith))))
-      (λ u. inl (u.0, err_same (meaning bytes) fault unfit_length e (by_length (Err unfit_length) u.1))) (fits_or_not (length bytes))
+      (λ u. inl (u.0, err_same (meaning bytes) fault unfit_length e (by_length (Err unfit_length) u.1))) (fits_or_not bytes)
 
   pub first_malformed_word_is_told : FirstMalformedWordIsTold bytes (meaning bytes)
   first_malformed_word_is_told = record { refused = list_refused; told = list_told }

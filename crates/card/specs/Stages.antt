@@ -3,7 +3,7 @@ use Rattle.std.specs.Prelude.{◌≡◌, ℕ, List, [], Result}
 use Rattle.fault.specs.declared.Fault.{Fault}
 use Rattle.calls.specs.declared.call.Call.{Call}
 use Rattle.port.specs.declared.Port.{Ghosts}
-use Rattle.port.specs.Memory.{State, raised}
+use Rattle.port.specs.Memory.{State}
 use Rattle.port.specs.Meaning.{waiting_answer}
 use Rattle.port.specs.Steps.{Step, Chain}
 use Rattle.write_buffer.specs.declared.buffer.WriteBuffer.{WriteBuffer}
@@ -12,8 +12,7 @@ use Rattle.write_buffer.specs.Buffering.{buffered}
 use Rattle.write_buffer.specs.Buffering.{Does as BufferDoes}
 use Rattle.cache.specs.declared.cache.Cache.{Cache}
 use Rattle.cache_tables.specs.Rules.{cleared}
-use Rattle.cache.specs.Doing.{tables_of}
-use Rattle.cache.specs.Doing.{Does as CacheDoes}
+use Rattle.cache.specs.Doing.{tables_of, cache_ghosts}
 use Rattle.book.specs.declared.answer.Mode.{Mode}
 use Rattle.book.specs.declared.answer.Answer.{Answer}
 use Rattle.book.specs.Promise.{NeverAnOldDigit}
@@ -25,11 +24,11 @@ buffer_ghosts G = record { state = λ b. buffered (G.state b.below) (queued b.qu
 abbrev pub Pile : {P : Type 0} → Ghosts P → Type 0
 Pile {P} G = Cache (WriteBuffer P G) (buffer_ghosts G)
 
-abbrev pub pile_state : {P : Type 0} (G : Ghosts P) → Pile G → State
-pile_state G c = raised ((buffer_ghosts G).state c.below)
-
 abbrev pub pile_ghosts : {P : Type 0} (G : Ghosts P) → Ghosts (Pile G)
-pile_ghosts G = record { state = pile_state G; does = CacheDoes }
+pile_ghosts G = cache_ghosts (buffer_ghosts G)
+
+abbrev pub pile_state : {P : Type 0} (G : Ghosts P) → Pile G → State
+pile_state G = (pile_ghosts G).state
 
 -- Stages that were just put on a memory hold nothing.
 pub record Fresh {P : Type 0} {G : Ghosts P} (memory : P) (c : Pile G) : Type 0 where

@@ -5,10 +5,9 @@ use Rattle.fault.specs.declared.Fault.{Fault}
 use Rattle.calls.specs.declared.call.Call.{Call}
 use Rattle.calls.specs.declared.call.Call.TheVariants.{Read, Advance, Flush}
 use Rattle.port.specs.declared.Port.{Ghosts}
-use Rattle.port.specs.Memory.{raised}
 use Rattle.cache_tables.specs.Rules.{cleared}
 use Rattle.cache.specs.declared.cache.Cache.{Cache}
-use Rattle.cache.specs.Doing.{tables_of, Does}
+use Rattle.cache.specs.Doing.{tables_of, cache_ghosts}
 use Rattle.book.specs.declared.answer.Mode.{Mode}
 use Rattle.book.specs.declared.answer.Answer.{Answer}
 use Rattle.book.specs.Promise.{NeverAnOldDigit}
@@ -21,9 +20,6 @@ fill word = Read word ∷ Advance ∷ Advance ∷ Advance ∷ Advance ∷ Advanc
 
 abbrev pub start_up_calls : List ℕ → List Call
 start_up_calls words = Flush ∷ flat_map fill words
-
-abbrev pub cache_ghosts : {P : Type 0} (G : Ghosts P) → Ghosts (Cache P G)
-cache_ghosts G = record { state = λ c. raised (G.state c.below); does = Does }
 
 -- The calls were made on a board over a fresh cache, with the whole promise about old digits, and the walk found what stands in
 -- the directory that they left.

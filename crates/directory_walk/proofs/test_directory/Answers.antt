@@ -1,7 +1,7 @@
 use Rattle.std.proofs.Common.{List, subst, vec_items, ◌∙◌}
 use Rattle.calls.specs.declared.call.Call.{Call}
 use Rattle.book.specs.Promise.{NeverAnOldDigit}
-use Rattle.directory_walk.specs.StartUp.{cache_ghosts}
+use Rattle.cache.specs.Doing.{cache_ghosts}
 use Rattle.directory_walk.proofs.test_directory.Goals as goal
 
 pub returns : goal.returns
