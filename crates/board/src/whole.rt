@@ -1,6 +1,6 @@
 //! Whole lists of calls, and the promise that they keep.
-ghost use Rattle.std.specs.Prelude.{◌≡◌, ◌≤◌, [], length, IfOk, vec_len, vec_capacity, MatchResult};
-ghost use Rattle.book.specs.Promise.{NeverAnOldDigit, HeardAlike, TheBookIsSound};
+ghost use Rattle.std.specs.Prelude.{◌≡◌, ◌≤◌, [], length, vec_len, vec_capacity, MatchResult};
+ghost use Rattle.book.specs.Promise.{NeverAnOldDigit, BothKeep, TheBookIsSound};
 
 use super::board::Board;
 use book::Answer;
@@ -50,9 +50,7 @@ pub fn compare<P: Port, Q: Port>(
     other: Q,
     calls: &[Call],
 ) -> Result<(Outcome<P>, Outcome<Q>), AllocFailed<(P, Q)>>
-    ensures promise { MatchResult result (λ runs. NeverAnOldDigit P.Port one calls.now runs.0.answers.items runs.0.board.mode runs.0.board.port) (λ failed. failed.value.0 ≡ one) }
-    ensures other_promise { MatchResult result (λ runs. NeverAnOldDigit Q.Port other calls.now runs.1.answers.items runs.1.board.mode runs.1.board.port) (λ failed. failed.value.1 ≡ other) }
-    ensures alike { IfOk result (λ runs. HeardAlike (P.state one) (Q.state other) calls.now runs.0.answers.items runs.1.answers.items) }
+    ensures promise { MatchResult result (λ runs. BothKeep P.Port Q.Port one other calls.now runs.0.answers.items runs.1.answers.items runs.0.board.mode runs.1.board.mode runs.0.board.port runs.1.board.port) (λ failed. (failed.value.0 ≡ one) × (failed.value.1 ≡ other)) }
     ensures law { TheBookIsSound }
 {
     let Ok(room) = Vec::with_capacity(alloc, calls.len()) else {

@@ -1,5 +1,5 @@
 -- While the board is locked nothing waits, and only the lock's own writes settle.
-use Rattle.std.proofs.Common.{◌≡◌, ℕ, ◌⊎◌, List, [], ◌∷◌, ◌++◌, length, take, drop, Some, None, Option, sym, refl, ap, ◌∙◌, subst, ap₂, inl, inr, arith}
+use Rattle.std.proofs.Common.{◌≡◌, ℕ, ◌⊎◌, List, [], ◌∷◌, ◌++◌, length, take, drop, Some, None, Option, Result, sym, refl, ap, ◌∙◌, subst, ap₂, inl, inr, arith}
 use lib.Seq.{drop-length, take-length, drop-nil, take-nil}
 use Rattle.fault.specs.declared.Refusal.{Refusal}
 use Rattle.calls.specs.declared.call.Call.{Call}
@@ -10,9 +10,11 @@ use Rattle.port.specs.Memory.{applied}
 use Rattle.port.proofs.Settling.{applied-append}
 use Rattle.book.specs.declared.answer.Mode.{Mode}
 use Rattle.book.specs.declared.answer.Mode.TheVariants.{Locked}
-use Rattle.book.specs.Tables.{unless_locked, or_else, fits, refusal, if_taken, posts, masters_writes, goes_to, settles_by, Rule, none, all}
+use Rattle.book.specs.Tables.{unless_locked, or_else, fits, refusal, if_taken, posts, masters_writes, locks_writes, goes_to, settles_by, Rule, none, all}
 use Rattle.book.specs.Book.{Book, refused, joins, line, step, rule, Admits, Allowed, answer}
-use Rattle.book.specs.Runs.{after, answers, Admitted, if_ok, locks_writes, locked_writes, Held}
+use Rattle.fault.specs.declared.Fault.{Fault}
+use Rattle.book.specs.declared.answer.Answer.{Answer}
+use Rattle.book.specs.Runs.{Moment, after, Follows, if_ok, locked_writes, Held}
 use Rattle.book.proofs.Records.{took_locks}
 
 -- A board that a call leaves locked: all has settled, or it was locked before and nothing joined.
@@ -48,10 +50,9 @@ calm_step b c k h calm e = go (emptied b.mode b.state.facts.words c (refused b c
         ap (λ (n : ℕ). drop n (line b c)) q ∙ drop-length (line b c)
     go (inr p) = ap₂ (λ (xs ys : List Store). drop k (xs ++ ys)) (calm p.0) p.1 ∙ drop-nil k
 
-pub calm_run : (b : Book) (cs : List Call) (ks : List ℕ) → Admitted b cs ks → Calm b → Calm (after b cs ks)
-calm_run b [] ks h calm = calm
-calm_run b (c ∷ cs) [] h calm = absurd h
-calm_run b (c ∷ cs) (k ∷ ks) h calm = calm_run (step b c k) cs ks h.1 (calm_step b c k h.0 calm)
+pub calm_run : (b : Book) (run : List Moment) → Follows b run → Calm b → Calm (after b run)
+calm_run b [] f calm = calm
+calm_run b (x ∷ run) f calm = calm_run (step b x.call x.count) run f.2 (calm_step b x.call x.count f.0 calm)
 
 -- What a locked board takes: no master's write, and no write but the lock's.
 pub record Own (o : Option Refusal) (c : Call) : Type 0 where
@@ -95,14 +96,15 @@ locked_step b c k e f h =
       w.1,
     )
 
-pub locked_run : (b : Book) (cs : List Call) (ks : List ℕ) → b.state.waiting ≡ [] → Admitted b cs ks → Held b cs ks
-    → ((after b cs ks).state.settled ≡ applied b.state.protected (locked_writes cs (answers b cs ks)) b.state.settled) × ((after b cs ks).state.waiting ≡ [])
-locked_run b [] ks e h p = (refl, e)
-locked_run b (c ∷ cs) [] e h p = absurd h
-locked_run b (c ∷ cs) (k ∷ ks) e h p =
-    let o = locked_step b c k p.0 e h.0 in
-    let r = locked_run (step b c k) cs ks o.1 h.1 p.1 in (
-      r.0 ∙ ap (λ x. applied b.state.protected (locked_writes cs (answers (step b c k) cs ks)) x) o.0
-          ∙ sym (applied-append b.state.protected (if_ok (answer b c) (locks_writes c)) (locked_writes cs (answers (step b c k) cs ks)) b.state.settled),
+pub locked_run : (b : Book) (run : List Moment) → b.state.waiting ≡ [] → Follows b run → Held b run
+    → ((after b run).state.settled ≡ applied b.state.protected (locked_writes run) b.state.settled) × ((after b run).state.waiting ≡ [])
+locked_run b [] e f p = (refl, e)
+locked_run b (x ∷ run) e f p =
+    let o = locked_step b x.call x.count p.0 e f.0 in
+    let r = locked_run (step b x.call x.count) run o.1 f.2 p.1 in
+    let own = if_ok (answer b x.call) (locks_writes x.call) in (
+      r.0 ∙ ap (λ y. applied b.state.protected (locked_writes run) y) o.0
+          ∙ sym (applied-append b.state.protected own (locked_writes run) b.state.settled)
+          ∙ ap (λ (a : Result Answer Fault). applied b.state.protected (if_ok a (locks_writes x.call) ++ locked_writes run) b.state.settled) (sym f.1),
       r.1,
     )

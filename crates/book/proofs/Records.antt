@@ -1,18 +1,18 @@
 -- The record of a run says what the book does.
-use Rattle.std.proofs.Common.{◌≡◌, ℕ, zero, suc, ◌≤◌, ◌⊎◌, List, [], ◌∷◌, ◌++◌, length, get_or, take, drop, Some, None, Ok, Err, Option, Result, sym, refl, ap, ◌∙◌, inl, inr, append_assoc, append-nil, arith, length-append, take-append-drop, length-take, take_at, drop_at}
+use Rattle.std.proofs.Common.{◌≡◌, ℕ, zero, suc, ◌+◌, ◌≤◌, Bool, ◌⊎◌, List, [], ◌∷◌, ◌++◌, length, get_or, take, drop, Some, None, Ok, Err, Option, Result, sym, refl, ap, ◌∙◌, subst, ap₂, inl, inr, append_assoc, append-nil, arith, length-append, take-append-drop, length-take, take_at, drop_at}
 use Rattle.std.proofs.lemmas.List.{map-append, take-map, drop-map, length-map}
 use Rattle.fault.specs.declared.Fault.{Fault}
 use Rattle.fault.specs.declared.Refusal.{Refusal}
 use Rattle.calls.specs.declared.call.Call.{Call}
 use Rattle.calls.specs.declared.call.Call.TheVariants.{Read, Write as Post, Unposted, Advance, Lock, LockedRead, LockedWrite, Unlock, Ask, MasterRead, MasterWrite, Give, Snoop, Flush}
 use Rattle.port.specs.declared.Store.{Store}
-use Rattle.port.specs.Memory.{State, applied}
+use Rattle.port.specs.Memory.{Memory, State, applied}
 use Rattle.port.proofs.Settling.{applied-append}
 use Rattle.book.specs.declared.answer.Answer.{Answer}
 use Rattle.book.specs.declared.answer.Answer.TheVariants.{Done}
-use Rattle.book.specs.Tables.{if_taken, posts, masters_writes, Rule, none, some, one_or_more, all}
+use Rattle.book.specs.Tables.{if_taken, posts, masters_writes, locks_writes, Rule, none, some, one_or_more, all}
 use Rattle.book.specs.Book.{Book, refused, joins, masters, line, step, rule, Admits, says, unless, told, answer}
-use Rattle.book.specs.Runs.{after, answers, Admitted, if_ok, Entry, entry_of, marked, lined, waits, history, processor_history, accepted, total, locks_writes}
+use Rattle.book.specs.Runs.{Moment, moment, calls_of, answers_of, after, Follows, if_ok, Entry, entry_of, marked, Ledger, blank, joined, passed, entered, ledger, total}
 
 -- ACCEPTED WRITES, read off the answers
 
@@ -65,73 +65,56 @@ took_masters b c = took_of b c (masters_writes c) (elim (writes_or_not b.state c
 pub took_locks : (b : Book) (c : Call) → if_ok (answer b c) (locks_writes c) ≡ if_taken (refused b c) (locks_writes c) []
 took_locks b c = took_of b c (locks_writes c) (elim (writes_or_not b.state c) [ inl e ↦ inl e | inr e ↦ inr e.no_lock ])
 
--- MARKED LISTS
+-- THE LEDGER AND THE BOOK
 
-lined_is : (b : Book) (c : Call) → lined b.state.protected (marked b.state.protected b.state.waiting) c (answer b c) ≡ marked b.state.protected (line b c)
-lined_is b c =
-    ap (λ (x : List Store). marked b.state.protected b.state.waiting ++ marked b.state.protected x) (took_posts b c)
-    ∙ sym (map-append (entry_of b.state.protected) b.state.waiting (joins b c))
+-- What has settled, as writes, and what waits: the ledger's and the book's, over the first content.
+pub record Tells (m : Memory) (p : ℕ → Bool) (b : Book) (l : Ledger) : Type 0 where
+  pub marks : b.state.protected ≡ p
+  pub waiting : l.waiting ≡ marked p b.state.waiting
+  pub writes : List Store
+  pub settled : l.settled ≡ marked p writes
+  pub memory : b.state.settled ≡ applied p writes m
 
-dropped_is : (b : Book) (c : Call) (k : ℕ)
-    → drop k (lined b.state.protected (marked b.state.protected b.state.waiting) c (answer b c)) ≡ marked b.state.protected (drop k (line b c))
-dropped_is b c k = ap (λ (x : List Entry). drop k x) (lined_is b c) ∙ drop-map (entry_of b.state.protected) k (line b c)
+joined_is : (p : ℕ → Bool) (b : Book) (l : Ledger) (c : Call) (k : ℕ) → l.waiting ≡ marked p b.state.waiting
+    → l.waiting ++ joined p (moment c (answer b c) k) ≡ marked p (line b c)
+joined_is p b l c k e =
+    ap₂ (λ (xs : List Entry) (ys : List Store). xs ++ marked p ys) e (took_posts b c) ∙ sym (map-append (entry_of p) b.state.waiting (joins b c))
 
--- WHAT SETTLES IN THE BOOK
+tells_step : (m : Memory) (p : ℕ → Bool) (b : Book) (l : Ledger) (c : Call) (k : ℕ) → Tells m p b l → Tells m p (step b c k) (entered p l (moment c (answer b c) k))
+tells_step m p b l c k h =
+    let j = joined_is p b l c k h.waiting in
+    let new = masters b c ++ take k (line b c) in
+    record {
+      marks = h.marks;
+      waiting = ap (λ (x : List Entry). drop k x) j ∙ drop-map (entry_of p) k (line b c);
+      writes = h.writes ++ new;
+      settled = ap₂ (λ (xs ys : List Entry). xs ++ ys) h.settled
+          (ap₂ (λ (xs : List Store) (ys : List Entry). marked p xs ++ ys) (took_masters b c) (ap (λ (x : List Entry). take k x) j ∙ take-map (entry_of p) k (line b c))
+          ∙ sym (map-append (entry_of p) (masters b c) (take k (line b c))))
+          ∙ sym (map-append (entry_of p) h.writes new);
+      memory = ap (λ (q : ℕ → Bool). applied q (take k (line b c)) (applied q (masters b c) b.state.settled)) h.marks
+          ∙ ap (λ (x : Memory). applied p (take k (line b c)) (applied p (masters b c) x)) h.memory
+          ∙ sym (applied-append p (masters b c) (take k (line b c)) (applied p h.writes m))
+          ∙ sym (applied-append p h.writes new m);
+    }
 
-abbrev pub settled_by : Book → List Call → List ℕ → List Store
-settled_by b [] ks = []
-settled_by b (c ∷ cs) [] = []
-settled_by b (c ∷ cs) (k ∷ ks) = masters b c ++ (take k (line b c) ++ settled_by (step b c k) cs ks)
-
-pub settled_run : (b : Book) (cs : List Call) (ks : List ℕ) → (after b cs ks).state.settled ≡ applied b.state.protected (settled_by b cs ks) b.state.settled
-settled_run b [] ks = refl
-settled_run b (c ∷ cs) [] = refl
-settled_run b (c ∷ cs) (k ∷ ks) =
-    settled_run (step b c k) cs ks
-    ∙ sym (applied-append b.state.protected (take k (line b c)) (settled_by (step b c k) cs ks) (applied b.state.protected (masters b c) b.state.settled))
-    ∙ sym (applied-append b.state.protected (masters b c) (take k (line b c) ++ settled_by (step b c k) cs ks) b.state.settled)
-
-pub protected_run : (b : Book) (cs : List Call) (ks : List ℕ) → (after b cs ks).state.protected ≡ b.state.protected
-protected_run b [] ks = refl
-protected_run b (c ∷ cs) [] = refl
-protected_run b (c ∷ cs) (k ∷ ks) = protected_run (step b c k) cs ks
-
-pub history_is : (b : Book) (cs : List Call) (ks : List ℕ)
-    → history b.state.protected (marked b.state.protected b.state.waiting) cs (answers b cs ks) ks ≡ marked b.state.protected (settled_by b cs ks)
-history_is b [] ks = refl
-history_is b (c ∷ cs) [] = refl
-history_is b (c ∷ cs) (k ∷ ks) =
-    let p = b.state.protected in
-    ap (λ (x : List Store). marked p x ++ (take k (lined p (marked p b.state.waiting) c (answer b c)) ++ history p (drop k (lined p (marked p b.state.waiting) c (answer b c))) cs (answers (step b c k) cs ks) ks)) (took_masters b c)
-    ∙ ap (λ (x : List Entry). marked p (masters b c) ++ (x ++ history p (drop k (lined p (marked p b.state.waiting) c (answer b c))) cs (answers (step b c k) cs ks) ks)) (ap (λ (x : List Entry). take k x) (lined_is b c) ∙ take-map (entry_of p) k (line b c))
-    ∙ ap (λ (x : List Entry). marked p (masters b c) ++ (marked p (take k (line b c)) ++ history p x cs (answers (step b c k) cs ks) ks)) (dropped_is b c k)
-    ∙ ap (λ (x : List Entry). marked p (masters b c) ++ (marked p (take k (line b c)) ++ x)) (history_is (step b c k) cs ks)
-    ∙ ap (λ (x : List Entry). marked p (masters b c) ++ x) (sym (map-append (entry_of p) (take k (line b c)) (settled_by (step b c k) cs ks)))
-    ∙ sym (map-append (entry_of p) (masters b c) (take k (line b c) ++ settled_by (step b c k) cs ks))
-
-pub waits_is : (b : Book) (cs : List Call) (ks : List ℕ)
-    → waits b.state.protected (marked b.state.protected b.state.waiting) cs (answers b cs ks) ks ≡ marked b.state.protected (after b cs ks).state.waiting
-waits_is b [] ks = refl
-waits_is b (c ∷ cs) [] = refl
-waits_is b (c ∷ cs) (k ∷ ks) =
-    ap (λ (x : List Entry). waits b.state.protected x cs (answers (step b c k) cs ks) ks) (dropped_is b c k) ∙ waits_is (step b c k) cs ks
+pub tells_run : (m : Memory) (p : ℕ → Bool) (b : Book) (l : Ledger) (run : List Moment) → Follows b run → Tells m p b l → Tells m p (after b run) (ledger p l run)
+tells_run m p b l [] f h = h
+tells_run m p b l (x ∷ run) f h =
+    tells_run m p (step b x.call x.count) (entered p l x) run f.2
+    (subst (λ (r : Result Answer Fault). Tells m p (step b x.call x.count) (entered p l (moment x.call r x.count))) (sym f.1) (tells_step m p b l x.call x.count h))
 
 -- ONCE AND IN ORDER
 
--- What has settled and what waits are, together, what waited and what was accepted.
-once_all : (b : Book) (es : List Entry) (cs : List Call) (ks : List ℕ) → Admitted b cs ks
-    → processor_history b.state.protected es cs (answers b cs ks) ks ++ waits b.state.protected es cs (answers b cs ks) ks ≡ es ++ accepted b.state.protected cs (answers b cs ks)
-once_all b es [] ks h = sym (append-nil es)
-once_all b es (c ∷ cs) [] h = absurd h
-once_all b es (c ∷ cs) (k ∷ ks) h =
-    let p = b.state.protected in
-    let l = lined p es c (answer b c) in
-    let rs = answers (step b c k) cs ks in
-    append_assoc (take k l) (processor_history p (drop k l) cs rs ks) (waits p (drop k l) cs rs ks)
-    ∙ ap (λ (x : List Entry). take k l ++ x) (once_all (step b c k) (drop k l) cs ks h.1)
-    ∙ sym (append_assoc (take k l) (drop k l) (accepted p cs rs))
-    ∙ ap (λ (x : List Entry). x ++ accepted p cs rs) (take-append-drop k l)
-    ∙ append_assoc es (marked p (if_ok (answer b c) (posts c))) (accepted p cs rs)
+pub once : (p : ℕ → Bool) (l : Ledger) (run : List Moment) → l.own ++ l.waiting ≡ l.accepted
+    → (ledger p l run).own ++ (ledger p l run).waiting ≡ (ledger p l run).accepted
+once p l [] e = e
+once p l (x ∷ run) e =
+    once p (entered p l x) run
+    (append_assoc l.own (take x.count (l.waiting ++ joined p x)) (drop x.count (l.waiting ++ joined p x))
+    ∙ ap (λ (xs : List Entry). l.own ++ xs) (take-append-drop x.count (l.waiting ++ joined p x))
+    ∙ sym (append_assoc l.own l.waiting (joined p x))
+    ∙ ap (λ (xs : List Entry). xs ++ joined p x) e)
 
 within : (r : Rule) (n k : ℕ) → Admits r n k → k ≤ n
 within none n k h = omega arith
@@ -139,68 +122,24 @@ within some n k h = h
 within one_or_more n k h = h.0
 within all n k h = omega arith
 
-once_length : (b : Book) (es : List Entry) (cs : List Call) (ks : List ℕ) → es ≡ marked b.state.protected b.state.waiting → Admitted b cs ks
-    → length (processor_history b.state.protected es cs (answers b cs ks) ks) ≡ total ks
-once_length b es [] [] q h = refl
-once_length b es [] (k ∷ ks) q h = absurd h
-once_length b es (c ∷ cs) [] q h = absurd h
-once_length b es (c ∷ cs) (k ∷ ks) q h =
-    let p = b.state.protected in
-    let l = lined p es c (answer b c) in
-    let lined-now : l ≡ marked p (line b c) = ap (λ (x : List Entry). lined p x c (answer b c)) q ∙ lined_is b c in
-    let rest = once_length (step b c k) (drop k l) cs ks (ap (λ (x : List Entry). drop k x) lined-now ∙ drop-map (entry_of p) k (line b c)) h.1 in
-    let le : k ≤ length (line b c) = within (rule b c) (length (line b c)) k h.0 in
-    let size : length l ≡ length (line b c) = ap length lined-now ∙ length-map (line b c) (entry_of p) in
-    let front : length (take k l) ≡ k = length-take k l ∙ omega arith in
-    length-append (take k l) (processor_history p (drop k l) cs (answers (step b c k) cs ks) ks) ∙ omega arith
-
-pub once_settled : (b : Book) (cs : List Call) (ks : List ℕ) → b.state.waiting ≡ [] → Admitted b cs ks
-    → (processor_history b.state.protected [] cs (answers b cs ks) ks ≡ take (total ks) (accepted b.state.protected cs (answers b cs ks)))
-    × (waits b.state.protected [] cs (answers b cs ks) ks ≡ drop (total ks) (accepted b.state.protected cs (answers b cs ks)))
-once_settled b cs ks e h =
-    let p = b.state.protected in
-    let rs = answers b cs ks in
-    let whole : accepted p cs rs ≡ processor_history p [] cs rs ks ++ waits p [] cs rs ks = sym (once_all b [] cs ks h) in
-    let n : length (processor_history p [] cs rs ks) ≡ total ks = once_length b [] cs ks (ap (marked p) (sym e)) h in (
-      sym (ap (λ (x : List Entry). take (total ks) x) whole ∙ take_at (processor_history p [] cs rs ks) (waits p [] cs rs ks) (total ks) n),
-      sym (ap (λ (x : List Entry). drop (total ks) x) whole ∙ drop_at (processor_history p [] cs rs ks) (waits p [] cs rs ks) (total ks) n),
-    )
+pub many : (m : Memory) (p : ℕ → Bool) (b : Book) (l : Ledger) (run : List Moment) → Follows b run → Tells m p b l
+    → length (ledger p l run).own ≡ length l.own + total run
+many m p b l [] f h = omega arith
+many m p b l (x ∷ run) f h =
+    let next = subst (λ (r : Result Answer Fault). Tells m p (step b x.call x.count) (entered p l (moment x.call r x.count))) (sym f.1) (tells_step m p b l x.call x.count h) in
+    let size : length (l.waiting ++ joined p x) ≡ length (line b x.call) =
+        ap length (ap (λ (r : Result Answer Fault). l.waiting ++ joined p (moment x.call r x.count)) f.1 ∙ joined_is p b l x.call x.count h.waiting) ∙ length-map (line b x.call) (entry_of p) in
+    let le : x.count ≤ length (line b x.call) = within (rule b x.call) (length (line b x.call)) x.count f.0 in
+    let front : length (take x.count (l.waiting ++ joined p x)) ≡ x.count = length-take x.count (l.waiting ++ joined p x) ∙ omega arith in
+    let rest = many m p (step b x.call x.count) (entered p l x) run f.2 next in
+    let own = length-append l.own (take x.count (l.waiting ++ joined p x)) in omega (arith, rest, own, front)
 
 -- PARTS OF A RUN
 
-pub front : (b : Book) (cs : List Call) (ks : List ℕ) (i : ℕ) → Admitted b cs ks → Admitted b (take i cs) (take i ks)
-front b cs ks zero h = tt
-front b [] [] (suc i) h = tt
-front b [] (k ∷ ks) (suc i) h = absurd h
-front b (c ∷ cs) [] (suc i) h = absurd h
-front b (c ∷ cs) (k ∷ ks) (suc i) h = (h.0, front (step b c k) cs ks i h.1)
+pub front : (b : Book) (before later : List Moment) → Follows b (before ++ later) → Follows b before
+front b [] later f = tt
+front b (x ∷ before) later f = (f.0, f.1, front (step b x.call x.count) before later f.2)
 
-pub back : (b : Book) (cs : List Call) (ks : List ℕ) (i : ℕ) → Admitted b cs ks → Admitted (after b (take i cs) (take i ks)) (drop i cs) (drop i ks)
-back b cs ks zero h = h
-back b [] [] (suc i) h = tt
-back b [] (k ∷ ks) (suc i) h = absurd h
-back b (c ∷ cs) [] (suc i) h = absurd h
-back b (c ∷ cs) (k ∷ ks) (suc i) h = back (step b c k) cs ks i h.1
-
-pub take_answers : (b : Book) (cs : List Call) (ks : List ℕ) (i : ℕ) → Admitted b cs ks → take i (answers b cs ks) ≡ answers b (take i cs) (take i ks)
-take_answers b cs ks zero h = refl
-take_answers b [] ks (suc i) h = refl
-take_answers b (c ∷ cs) [] (suc i) h = absurd h
-take_answers b (c ∷ cs) (k ∷ ks) (suc i) h = ap {B = List (Result Answer Fault)} (λ r. answer b c ∷ r) (take_answers (step b c k) cs ks i h.1)
-
-pub drop_answers : (b : Book) (cs : List Call) (ks : List ℕ) (i : ℕ) → Admitted b cs ks
-    → drop i (answers b cs ks) ≡ answers (after b (take i cs) (take i ks)) (drop i cs) (drop i ks)
-drop_answers b cs ks zero h = refl
-drop_answers b [] ks (suc i) h = refl
-drop_answers b (c ∷ cs) [] (suc i) h = absurd h
-drop_answers b (c ∷ cs) (k ∷ ks) (suc i) h = drop_answers (step b c k) cs ks i h.1
-
-pub answer_at : (b : Book) (cs : List Call) (ks : List ℕ) (i a : ℕ) (d : Call) → Admitted b cs ks → (get_or cs i Flush ≡ d) → (r : Result Answer Fault) → get_or (answers b cs ks) i (Ok Done) ≡ r
-    → answer (after b (take i cs) (take i ks)) d ≡ r
-answer_at b cs ks i a d h e r f = ap (answer (after b (take i cs) (take i ks))) (sym e) ∙ sym (at b cs ks i h) ∙ f
-  where
-    at : (b : Book) (cs : List Call) (ks : List ℕ) (i : ℕ) → Admitted b cs ks → get_or (answers b cs ks) i (Ok Done) ≡ answer (after b (take i cs) (take i ks)) (get_or cs i Flush)
-    at b [] ks i h = refl
-    at b (c ∷ cs) [] i h = absurd h
-    at b (c ∷ cs) (k ∷ ks) zero h = refl
-    at b (c ∷ cs) (k ∷ ks) (suc i) h = at (step b c k) cs ks i h.1
+pub back : (b : Book) (before later : List Moment) → Follows b (before ++ later) → Follows (after b before) later
+back b [] later f = f
+back b (x ∷ before) later f = back (step b x.call x.count) before later f.2

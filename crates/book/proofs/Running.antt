@@ -1,6 +1,6 @@
 -- A run of a board keeps the promise.
 use Rattle.std.proofs.Common.{◌≡◌, ℕ, ◌+◌, ◌<◌, ◌≤◌, Bool, true, false, cond, ◌⊎◌, List, [], ◌∷◌, ◌++◌, length, get_or, take, drop, Some, None, Ok, Err, Option, Result, sym, refl, ap, ◌∙◌, subst, ap₂, subst₂, inl, inr, arith, take_all}
-use Rattle.std.proofs.lemmas.List.{take_more}
+use Rattle.std.proofs.lemmas.List.{take_more, map-append}
 use Rattle.fault.specs.declared.Fault.{Fault}
 use Rattle.fault.specs.declared.Refusal.{Refusal}
 use Rattle.fault.specs.declared.Refusal.TheVariants.{Unreadable}
@@ -18,62 +18,37 @@ use Rattle.book.specs.declared.answer.Answer.TheVariants.{Done, Word}
 use Rattle.book.specs.Tables.{if_locked, in_range, if_taken, posts, masters_writes, goes_to, settles_by, Rule, none, some, one_or_more, all}
 use Rattle.book.specs.Book.{Book, book_of, first, refused, joins, masters, mastered, line, settle, step, rule, Admits, Allowed, says, unless, told, answer}
 use Rattle.book.specs.Calling.{Called}
-use Rattle.book.specs.Runs.{after, answers, Admitted, Entry, waits, history, locked_writes, Quiet, all_heard}
-use Rattle.book.specs.Promise.{Comes, ReadsAreNewest, LockedMemoryIsTheLocks, EachWriteSettlesOnce, CallsMade, none_made, one_more, NeverAnOldDigit, HeardAlike, TheBookIsSound}
+use Rattle.book.specs.Runs.{Moment, moment, calls_of, answers_of, after, Follows, Entry, ledger, blank, locked_writes}
+use Rattle.book.specs.Promise.{Comes, ReadsAreNewest, LockedMemoryIsTheLocks, EachWriteSettlesOnce, CallsMade, none_made, one_more, NeverAnOldDigit, BothKeep, TheBookIsSound}
 use Rattle.book.proofs.Counts.{settle_none}
 use Rattle.book.proofs.Bytes.{comes, one_source}
-use Rattle.book.proofs.Records.{settled_by, settled_run, protected_run, history_is, waits_is, once_settled, front, back, take_answers, drop_answers, answer_at}
+use Rattle.book.proofs.Records.{Tells, tells_run, once, many, front, back}
 use Rattle.book.proofs.Locks.{Calm, calm_run, locked_run}
 use Rattle.book.proofs.Sameness.{both_none, is_locked, heard_alike, like_first}
 
 -- CALLS MADE FOLLOW THE BOOK
 
-pub record Follows (b : Book) (cs : List Call) (rs : List (Result Answer Fault)) (ks : List ℕ) (d : Book) : Type 0 where
-  pub admitted : Admitted b cs ks
-  pub answered : rs ≡ answers b cs ks
-  pub left : d ≡ after b cs ks
+after-append : (b : Book) (xs ys : List Moment) → after b (xs ++ ys) ≡ after (after b xs) ys
+after-append b [] ys = refl
+after-append b (x ∷ xs) ys = after-append (step b x.call x.count) xs ys
 
-more_admitted : (b : Book) (cs : List Call) (ks : List ℕ) (c : Call) (k : ℕ) → Admitted b cs ks → Allowed (after b cs ks) c k → Admitted b (cs ++ (c ∷ [])) (ks ++ (k ∷ []))
-more_admitted b [] [] c k h p = (p, tt)
-more_admitted b [] (_ ∷ _) c k h p = absurd h
-more_admitted b (_ ∷ _) [] c k h p = absurd h
-more_admitted b (d ∷ cs) (j ∷ ks) c k h p = (h.0, more_admitted (step b d j) cs ks c k h.1 p)
+follows-append : (b : Book) (xs ys : List Moment) → Follows b xs → Follows (after b xs) ys → Follows b (xs ++ ys)
+follows-append b [] ys f g = g
+follows-append b (x ∷ xs) ys f g = (f.0, f.1, follows-append (step b x.call x.count) xs ys f.2 g)
 
-more_answers : (b : Book) (cs : List Call) (ks : List ℕ) (c : Call) (k : ℕ) → Admitted b cs ks
-    → answers b (cs ++ (c ∷ [])) (ks ++ (k ∷ [])) ≡ answers b cs ks ++ (answer (after b cs ks) c ∷ [])
-more_answers b [] [] c k h = refl
-more_answers b [] (_ ∷ _) c k h = absurd h
-more_answers b (_ ∷ _) [] c k h = absurd h
-more_answers b (d ∷ cs) (j ∷ ks) c k h = ap {B = List (Result Answer Fault)} (λ r. answer b d ∷ r) (more_answers (step b d j) cs ks c k h.1)
+pub record Led (b : Book) (run : List Moment) (d : Book) : Type 0 where
+  pub follows : Follows b run
+  pub left : d ≡ after b run
 
-more_after : (b : Book) (cs : List Call) (ks : List ℕ) (c : Call) (k : ℕ) → Admitted b cs ks → after b (cs ++ (c ∷ [])) (ks ++ (k ∷ [])) ≡ step (after b cs ks) c k
-more_after b [] [] c k h = refl
-more_after b [] (_ ∷ _) c k h = absurd h
-more_after b (_ ∷ _) [] c k h = absurd h
-more_after b (d ∷ cs) (j ∷ ks) c k h = more_after (step b d j) cs ks c k h.1
-
-follows_more : (b d e : Book) (cs : List Call) (rs : List (Result Answer Fault)) (ks : List ℕ) (c : Call) (r : Result Answer Fault) (k : ℕ)
-    → Follows b cs rs ks d → Allowed d c k → r ≡ answer d c → e ≡ step d c k → Follows b (cs ++ (c ∷ [])) (rs ++ (r ∷ [])) (ks ++ (k ∷ [])) e
-follows_more b d e cs rs ks c r k h p a l = record {
-  admitted = more_admitted b cs ks c k h.admitted (subst (λ (x : Book). Allowed x c k) h.left p);
-  answered = ap₂ (λ (xs : List (Result Answer Fault)) (x : Result Answer Fault). xs ++ (x ∷ [])) h.answered (a ∙ ap (λ (x : Book). answer x c) h.left)
-      ∙ sym (more_answers b cs ks c k h.admitted);
-  left = l ∙ ap (λ (x : Book). step x c k) h.left ∙ sym (more_after b cs ks c k h.admitted);
-}
-
-follows : {P : Type 0} (G : Ghosts P) (m : Mode) (p : P) (cs : List Call) (rs : List (Result Answer Fault)) (ks : List ℕ) (n : Mode) (q : P)
-    → CallsMade G m p cs rs ks n q → Follows (book_of m (G.state p)) cs rs ks (book_of n (G.state q))
-follows G m p _ _ _ _ _ none_made = record { admitted = tt; answered = refl; left = refl }
-follows G m p _ _ _ _ _ (one_more {n = n} {o = o} {q = q} {u = u} {c = c} {r = r} {cs = cs} {rs = rs} {ks = ks} t h) =
-    follows_more (book_of m (G.state p)) (book_of n (G.state q)) (book_of o (G.state u)) cs rs ks c r h.count
-    (follows G m p cs rs ks n q t) h.allowed h.answered h.left
-
--- One turn of a loop over calls.
-pub made_turn : {P : Type 0} (G : Ghosts P) (m : Mode) (p : P) (cs : List Call) (i : ℕ) (d : Call) (rs rs' : List (Result Answer Fault)) (r : Result Answer Fault) (ks : List ℕ) (n : Mode) (q : P) (o : Mode) (u : P)
-    → i < length cs → rs' ≡ rs ++ (r ∷ []) → CallsMade G m p (take i cs) rs ks n q → Called G n q (get_or cs i d) r o u
-    → (js : List ℕ) × CallsMade G m p (take (i + 1) cs) rs' js o u
-made_turn G m p cs i d rs rs' r ks n q o u lt e t h =
-    (ks ++ (h.count ∷ []), subst₂ (λ (xs : List Call) (ys : List (Result Answer Fault)). CallsMade G m p xs ys (ks ++ (h.count ∷ [])) o u) (sym (take_more cs i d lt)) (sym e) (one_more t h))
+led : {P : Type 0} (G : Ghosts P) (m : Mode) (p : P) (run : List Moment) (n : Mode) (q : P) → CallsMade G m p run n q → Led (book_of m (G.state p)) run (book_of n (G.state q))
+led G m p _ _ _ none_made = record { follows = tt; left = refl }
+led G m p _ _ _ (one_more {n = n} {o = o} {q = q} {u = u} {c = c} {r = r} {ms = ms} t h) =
+    let before = led G m p ms n q t in
+    let one : Follows (book_of n (G.state q)) (moment c r h.count ∷ []) = (h.allowed, h.answered, tt) in
+    record {
+      follows = follows-append (book_of m (G.state p)) ms (moment c r h.count ∷ []) before.follows (subst (λ (x : Book). Follows x (moment c r h.count ∷ [])) before.left one);
+      left = h.left ∙ ap (λ (x : Book). step x c h.count) before.left ∙ sym (after-append (book_of m (G.state p)) ms (moment c r h.count ∷ []));
+    }
 
 -- EACH BYTE THAT IS READ HAS ITS NEWEST SOURCE
 
@@ -94,84 +69,102 @@ answer_seen b c a v calm (inr e) h =
 calm_first : (s : State) → Calm (first s)
 calm_first s e = refl
 
-seen_comes : (s : State) (cs : List Call) (ks : List ℕ) (a v : ℕ) (lane : Lane) → (seen (after (first s) cs ks).state).word a ≡ v
-    → Comes lane a (waits s.protected [] cs (answers (first s) cs ks) ks) (history s.protected [] cs (answers (first s) cs ks) ks) ((seen s).word a) (byte lane v)
-seen_comes s cs ks a v lane e =
-    let p = s.protected in
-    let d = after (first s) cs ks in
-    let word : (applied p d.state.waiting (applied p (settled_by (first s) cs ks) (seen s))).word a ≡ v =
-    ap₂ (λ (x : ℕ → Bool) (m : Memory). (applied x d.state.waiting m).word a) (sym (protected_run (first s) cs ks)) (sym (settled_run (first s) cs ks)) ∙ e in
-    subst (λ (x : ℕ). Comes lane a (waits p [] cs (answers (first s) cs ks) ks) (history p [] cs (answers (first s) cs ks) ks) ((seen s).word a) (byte lane x)) word
-    (subst₂ (λ (xs ys : List Entry). Comes lane a xs ys ((seen s).word a) (byte lane ((applied p d.state.waiting (applied p (settled_by (first s) cs ks) (seen s))).word a)))
-    (sym (waits_is (first s) cs ks)) (sym (history_is (first s) cs ks))
-    (comes p lane a d.state.waiting (settled_by (first s) cs ks) (seen s)))
+tells_first : (s : State) → Tells (seen s) s.protected (first s) blank
+tells_first s = record { marks = refl; waiting = refl; writes = []; settled = refl; memory = refl }
 
-reads_are_newest : (s : State) (cs : List Call) (ks : List ℕ) → Admitted (first s) cs ks → ReadsAreNewest s cs (answers (first s) cs ks) ks
-reads_are_newest s cs ks h i a v lane which e =
-    let b = after (first s) (take i cs) (take i ks) in
-    subst (λ (rs : List (Result Answer Fault)). Comes lane a (waits s.protected [] (take i cs) rs (take i ks)) (history s.protected [] (take i cs) rs (take i ks)) ((seen s).word a) (byte lane v))
-    (sym (take_answers (first s) cs ks i h))
-    (seen_comes s (take i cs) (take i ks) a v lane
-    (answer_seen b (get_or cs i Flush) a v (calm_run (first s) (take i cs) (take i ks) (front (first s) cs ks i h) (calm_first s)) which
-    (answer_at (first s) cs ks i a (get_or cs i Flush) h refl (Ok (Word v)) e)))
+seen_comes : (s : State) (run : List Moment) (a v : ℕ) (lane : Lane) → Follows (first s) run → (seen (after (first s) run).state).word a ≡ v
+    → Comes lane a (ledger s.protected blank run).waiting (ledger s.protected blank run).settled ((seen s).word a) (byte lane v)
+seen_comes s run a v lane f e =
+    let p = s.protected in
+    let d = after (first s) run in
+    let t = tells_run (seen s) p (first s) blank run f (tells_first s) in
+    let word : (applied p d.state.waiting (applied p t.writes (seen s))).word a ≡ v =
+    ap₂ (λ (x : ℕ → Bool) (m : Memory). (applied x d.state.waiting m).word a) (sym t.marks) (sym t.memory) ∙ e in
+    subst (λ (x : ℕ). Comes lane a (ledger p blank run).waiting (ledger p blank run).settled ((seen s).word a) (byte lane x)) word
+    (subst₂ (λ (xs ys : List Entry). Comes lane a xs ys ((seen s).word a) (byte lane ((applied p d.state.waiting (applied p t.writes (seen s))).word a)))
+    (sym t.waiting) (sym t.settled) (comes p lane a d.state.waiting t.writes (seen s)))
+
+reads_are_newest : (s : State) (run : List Moment) → Follows (first s) run → ReadsAreNewest s run
+reads_are_newest s run f before later m a v lane split which e =
+    let g = subst (Follows (first s)) split f in
+    let early = front (first s) before (m ∷ later) g in
+    let here = back (first s) before (m ∷ later) g in
+    seen_comes s before a v lane early
+    (answer_seen (after (first s) before) m.call a v (calm_run (first s) before early (calm_first s)) which (sym here.1 ∙ e))
 
 -- UNDER A LOCK
 
-locked_memory : (s : State) (cs : List Call) (ks : List ℕ) → Admitted (first s) cs ks → LockedMemoryIsTheLocks s cs (answers (first s) cs ks) ks
-locked_memory s cs ks h i n locked held =
-    let b = after (first s) (take i cs) (take i ks) in
-    let later : Admitted b (drop i cs) (drop i ks) = back (first s) cs ks i h in
-    let run = locked_run b (take n (drop i cs)) (take n (drop i ks)) (calm_run (first s) (take i cs) (take i ks) (front (first s) cs ks i h) (calm_first s) locked)
-    (front b (drop i cs) (drop i ks) n later) held in
-    let rs : answers b (take n (drop i cs)) (take n (drop i ks)) ≡ take n (drop i (answers (first s) cs ks)) =
-    sym (ap (λ (x : List (Result Answer Fault)). take n x) (drop_answers (first s) cs ks i h) ∙ take_answers b (drop i cs) (drop i ks) n later) in (
-      run.0 ∙ ap₂ (λ (p : ℕ → Bool) (x : List (Result Answer Fault)). applied p (locked_writes (take n (drop i cs)) x) b.state.settled) (protected_run (first s) (take i cs) (take i ks)) rs,
-      run.1,
-    )
+locked_memory : (s : State) (run : List Moment) → Follows (first s) run → LockedMemoryIsTheLocks s run
+locked_memory s run f before under later split locked held =
+    let g = subst (Follows (first s)) split f in
+    let early = front (first s) before (under ++ later) g in
+    let b = after (first s) before in
+    let out = locked_run b under (calm_run (first s) before early (calm_first s) locked) (front b under later (back (first s) before (under ++ later) g)) held in
+    (out.0 ∙ ap (λ (p : ℕ → Bool). applied p (locked_writes under) b.state.settled) (tells_run (seen s) s.protected (first s) blank before early (tells_first s)).marks, out.1)
 
 -- THE PROMISE
 
-pub keeps : {P : Type 0} (G : Ghosts P) (p made : P) (cs : List Call) (rs : List (Result Answer Fault)) (ks : List ℕ) (m : Mode) (q : P)
-    → Drains G.state G.does p made → G.state made ≡ drained (G.state p) → CallsMade G Free made cs rs ks m q
-    → NeverAnOldDigit G p cs rs m q
-keeps G p made cs rs ks m q d e c =
+pub keeps : {P : Type 0} (G : Ghosts P) (p made : P) (run : List Moment) (m : Mode) (q : P)
+    → Drains G.state G.does p made → G.state made ≡ drained (G.state p) → CallsMade G Free made run m q
+    → NeverAnOldDigit G p (calls_of run) (answers_of run) m q
+keeps G p made run m q d e c =
     let s = G.state p in
-    let f : Follows (first s) cs rs ks (book_of m (G.state q)) = subst (λ (x : State). Follows (book_of Free x) cs rs ks (book_of m (G.state q))) e (follows G Free made cs rs ks m q c) in
-    let back_to = sym f.answered in
-    let once = once_settled (first s) cs ks refl f.admitted in
+    let f : Led (first s) run (book_of m (G.state q)) = subst (λ (x : State). Led (book_of Free x) run (book_of m (G.state q))) e (led G Free made run m q c) in
     record {
       made = made;
-      counts = ks;
       drains = d;
       begins = e;
+      run = run;
+      calls = refl;
+      answers = refl;
       calls_made = c;
-      admitted = f.admitted;
-      answers_are_the_books = f.answered;
+      follows_the_book = f.follows;
       ends_as_the_book = f.left;
-      reads_are_newest = subst (λ (x : List (Result Answer Fault)). ReadsAreNewest s cs x ks) back_to (reads_are_newest s cs ks f.admitted);
-      alike_starts_answer_alike = λ other js alike quiet h.
-          ap (all_heard cs) f.answered
-          ∙ heard_alike (first s) (first other) cs ks js (like_first s other alike) f.admitted h (subst (Quiet cs) f.answered quiet);
-      locked_memory_is_the_locks = subst (λ (x : List (Result Answer Fault)). LockedMemoryIsTheLocks s cs x ks) back_to (locked_memory s cs ks f.admitted);
-      each_write_settles_once = subst (λ (x : List (Result Answer Fault)). EachWriteSettlesOnce s cs x ks) back_to (record { settled = once.0; waiting = once.1 });
+      reads_are_newest = reads_are_newest s run f.follows;
+      alike_starts_answer_alike = λ other ms alike quiet same h. heard_alike (first s) (first other) run ms (like_first s other alike) f.follows h same quiet;
+      locked_memory_is_the_locks = locked_memory s run f.follows;
+      each_write_settles_once = record {
+        once = once s.protected blank run refl;
+        many = let h = many (seen s) s.protected (first s) blank run f.follows (tells_first s) in omega (arith, h);
+      };
     }
 
--- The start of a loop over calls, and its end.
-pub made_none : {P : Type 0} (G : Ghosts P) (m : Mode) (p : P) (rs : List (Result Answer Fault)) → rs ≡ [] → (ks : List ℕ) × CallsMade G m p [] rs ks m p
-made_none G m p rs e = ([], subst (λ (x : List (Result Answer Fault)). CallsMade G m p [] x [] m p) (sym e) none_made)
+-- A loop over calls: its start, one turn of it, and its end.
+pub record Made {P : Type 0} (G : Ghosts P) (m : Mode) (p : P) (cs : List Call) (rs : List (Result Answer Fault)) (n : Mode) (q : P) : Type 0 where
+  pub run : List Moment
+  pub calls : calls_of run ≡ cs
+  pub answers : answers_of run ≡ rs
+  pub made : CallsMade G m p run n q
 
-pub keeps_all : {P : Type 0} (G : Ghosts P) (p made : P) (cs : List Call) (rs : List (Result Answer Fault)) (i : ℕ) (ks : List ℕ) (n m : Mode) (q : P)
-    → Drains G.state G.does p made → G.state made ≡ drained (G.state p) → n ≡ Free → length cs ≤ i → CallsMade G n made (take i cs) rs ks m q
+pub made_none : {P : Type 0} (G : Ghosts P) (m : Mode) (p : P) (rs : List (Result Answer Fault)) → rs ≡ [] → Made G m p [] rs m p
+made_none G m p rs e = record { run = []; calls = refl; answers = sym e; made = none_made }
+
+pub made_turn : {P : Type 0} (G : Ghosts P) (m : Mode) (p : P) (cs : List Call) (i : ℕ) (d : Call) (rs rs' : List (Result Answer Fault)) (r : Result Answer Fault) (n : Mode) (q : P) (o : Mode) (u : P)
+    → i < length cs → rs' ≡ rs ++ (r ∷ []) → Made G m p (take i cs) rs n q → Called G n q (get_or cs i d) r o u
+    → Made G m p (take (i + 1) cs) rs' o u
+made_turn G m p cs i d rs rs' r n q o u lt e t h =
+    let one = moment (get_or cs i d) r h.count ∷ [] in
+    record {
+      run = t.run ++ one;
+      calls = map-append (λ x. x.call) t.run one ∙ ap (λ (xs : List Call). xs ++ (get_or cs i d ∷ [])) t.calls ∙ sym (take_more cs i d lt);
+      answers = map-append (λ x. x.answer) t.run one ∙ ap (λ (xs : List (Result Answer Fault)). xs ++ (r ∷ [])) t.answers ∙ sym e;
+      made = one_more t.made h;
+    }
+
+pub keeps_all : {P : Type 0} (G : Ghosts P) (p made : P) (cs : List Call) (rs : List (Result Answer Fault)) (i : ℕ) (n m : Mode) (q : P)
+    → Drains G.state G.does p made → G.state made ≡ drained (G.state p) → n ≡ Free → length cs ≤ i → Made G n made (take i cs) rs m q
     → NeverAnOldDigit G p cs rs m q
-keeps_all G p made cs rs i ks n m q d e f h c =
-    keeps G p made cs rs ks m q d e
-    (subst₂ (λ (x : Mode) (xs : List Call). CallsMade G x made xs rs ks m q) f (take_all i cs h) c)
+keeps_all G p made cs rs i n m q d e f h t =
+    subst₂ (λ (xs : List Call) (ys : List (Result Answer Fault)). NeverAnOldDigit G p xs ys m q) (t.calls ∙ take_all i cs h) t.answers
+    (keeps G p made t.run m q d e (subst (λ (x : Mode). CallsMade G x made t.run m q) f t.made))
 
-pub pair_alike : {P Q : Type 0} (G : Ghosts P) (H : Ghosts Q)
-    (p : P) (q : Q) (cs : List Call) (rs qs : List (Result Answer Fault)) (m n : Mode) (u : P) (v : Q)
-    → NeverAnOldDigit G p cs rs m u → NeverAnOldDigit H q cs qs n v → HeardAlike (G.state p) (H.state q) cs rs qs
-pair_alike G H p q cs rs qs m n u v h k alike quiet =
-    h.alike_starts_answer_alike (H.state q) k.counts alike quiet k.admitted ∙ ap (all_heard cs) (sym k.answers_are_the_books)
+pub both_keep : {P Q : Type 0} (G : Ghosts P) (H : Ghosts Q) (p : P) (q : Q) (cs : List Call) (rs qs : List (Result Answer Fault)) (m n : Mode) (u : P) (v : Q)
+    → NeverAnOldDigit G p cs rs m u → NeverAnOldDigit H q cs qs n v → BothKeep G H p q cs rs qs m n u v
+both_keep G H p q cs rs qs m n u v h k = record {
+  one = h;
+  other = k;
+  alike = λ alike quiet. h.alike_starts_answer_alike (H.state q) k.run alike quiet (k.calls ∙ sym h.calls) k.follows_the_book;
+}
 
 -- THE BOOK IS SOUND
 
@@ -181,12 +174,12 @@ some_count some n = (0, omega arith)
 some_count one_or_more n = (n, (omega arith, λ h. h))
 some_count all n = (n, refl)
 
-some_run : (b : Book) (cs : List Call) → (ks : List ℕ) × Admitted b cs ks
-some_run b [] = ([], tt)
+some_run : (b : Book) (cs : List Call) → (ms : List Moment) × (calls_of ms ≡ cs) × Follows b ms
+some_run b [] = ([], refl, tt)
 some_run b (c ∷ cs) =
     let k = some_count (rule b c) (length (line b c)) in
     let r = some_run (step b c k.0) cs in
-    (k.0 ∷ r.0, (k.1, r.1))
+    (moment c (answer b c) k.0 ∷ r.0, ap {B = List Call} (λ xs. c ∷ xs) r.1, (k.1, refl, r.2))
 
 -- A call at which no mode changes, no write joins or settles.
 idle : (b : Book) (c : Call) (k : ℕ) (o : Option Refusal) → refused b c ≡ o → if_taken o (goes_to b.mode c) b.mode ≡ b.mode

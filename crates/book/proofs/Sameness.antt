@@ -1,5 +1,5 @@
 -- Two boards that begin alike are heard alike.
-use Rattle.std.proofs.Common.{◌≡◌, ℕ, ◌<◌, Bool, true, false, cond, eqb, ltb, List, [], ◌∷◌, take, drop, Some, None, Ok, Err, Option, Result, sym, refl, ap, ◌∙◌, ap₂, arith, take-append-drop, ltb-true}
+use Rattle.std.proofs.Common.{◌≡◌, ℕ, ◌<◌, Bool, true, false, cond, eqb, ltb, List, [], ◌∷◌, take, drop, Some, None, Ok, Err, Option, Result, sym, refl, ap, ◌∙◌, subst, ap₂, arith, take-append-drop, ltb-true}
 use Rattle.fault.specs.declared.Refusal.{Refusal}
 use Rattle.fault.specs.declared.Refusal.TheVariants.{PastEnd, Unreadable}
 use Rattle.calls.specs.declared.call.Call.{Call}
@@ -14,7 +14,8 @@ use Rattle.book.specs.declared.answer.Answer.{Answer}
 use Rattle.book.specs.declared.answer.Answer.TheVariants.{Word}
 use Rattle.book.specs.Tables.{stop, in_range, or_else, refusal, if_taken, if_locked, posts, masters_writes, goes_to}
 use Rattle.book.specs.Book.{Book, first, refused, joins, masters, line, step, Allowed, reading, says, unless, told, answer}
-use Rattle.book.specs.Runs.{answers, Admitted, Quiet, Turned, heard, all_heard}
+use Rattle.fault.specs.declared.Fault.{Fault}
+use Rattle.book.specs.Runs.{Moment, calls_of, Follows, if_ok, Quiet, Turned, heard, all_heard}
 use Rattle.book.specs.Promise.{Alike}
 use Rattle.book.proofs.Locks.{Calm, calm_step}
 use Rattle.book.proofs.Records.{took_masters}
@@ -153,14 +154,22 @@ answer_alike b d h c =
         ap (λ (o : Option Refusal). heard c (told 0 c (unless o (says b.state c)))) e
         ∙ ap (λ (o : Option Refusal). heard c (told 0 c (unless o (says d.state c)))) (sym e)
 
-pub heard_alike : (b d : Book) (cs : List Call) (ks js : List ℕ) → Like b d → Admitted b cs ks → Admitted d cs js → Quiet cs (answers b cs ks)
-    → all_heard cs (answers b cs ks) ≡ all_heard cs (answers d cs js)
-heard_alike b d [] ks js h p q quiet = refl
-heard_alike b d (c ∷ cs) [] js h p q quiet = absurd p
-heard_alike b d (c ∷ cs) (k ∷ ks) [] h p q quiet = absurd q
-heard_alike b d (c ∷ cs) (k ∷ ks) (j ∷ js) h p q quiet =
-    ap₂ {C = List (Result Answer Turned)} (λ x xs. x ∷ xs) (answer_alike b d h c)
-    (heard_alike (step b c k) (step d c j) cs ks js (like_step b d c k j h (sym (took_masters b c) ∙ quiet.0) p.0 q.0) p.1 q.1 quiet.1)
+same_calls : (m n : Moment) (ms ns : List Moment) → calls_of (m ∷ ms) ≡ calls_of (n ∷ ns) → (m.call ≡ n.call) × (calls_of ms ≡ calls_of ns)
+same_calls m n ms ns e = (cc, cc)
+
+pub heard_alike : (b d : Book) (run other : List Moment) → Like b d → Follows b run → Follows d other → calls_of other ≡ calls_of run → Quiet run
+    → all_heard run ≡ all_heard other
+heard_alike b d [] [] h p q e quiet = refl
+heard_alike b d [] (n ∷ other) h p q e quiet = let z : ◌≡◌ {A = ℕ} 0 1 = cc in absurd (omega arith)
+heard_alike b d (m ∷ run) [] h p q e quiet = let z : ◌≡◌ {A = ℕ} 0 1 = cc in absurd (omega arith)
+heard_alike b d (m ∷ run) (n ∷ other) h p q e quiet =
+    let same = same_calls n m other run e in
+    let allowed : Allowed d m.call n.count = subst (λ (c : Call). Allowed d c n.count) same.0 q.0 in
+    let later : Follows (step d m.call n.count) other = subst (λ (c : Call). Follows (step d c n.count) other) same.0 q.2 in
+    let none : masters b m.call ≡ [] = sym (took_masters b m.call) ∙ ap (λ (r : Result Answer Fault). if_ok r (masters_writes m.call)) (sym p.1) ∙ quiet.0 in
+    ap₂ {C = List (Result Answer Turned)} (λ x xs. x ∷ xs)
+    (ap (heard m.call) p.1 ∙ answer_alike b d h m.call ∙ ap (λ (c : Call). heard c (answer d c)) (sym same.0) ∙ ap (heard n.call) (sym q.1))
+    (heard_alike (step b m.call m.count) (step d m.call n.count) run other (like_step b d m.call m.count n.count h none p.0 allowed) p.2 later same.1 quiet.1)
 
 pub like_first : (s t : State) → Alike s t → Like (first s) (first t)
 like_first s t h =

@@ -11,7 +11,7 @@ use Rattle.book.specs.declared.answer.Mode.{Mode}
 use Rattle.book.specs.declared.answer.Mode.TheVariants.{Free}
 use Rattle.book.specs.declared.answer.Answer.{Answer}
 use Rattle.book.specs.declared.answer.Answer.TheVariants.{Done, Word}
-use Rattle.book.specs.Tables.{refusal, fault_of, if_taken, posts, masters_writes, goes_to, Rule, none, some, one_or_more, all, settles_by}
+use Rattle.book.specs.Tables.{refusal, fault_of, if_taken, posts, masters_writes, goes_to, Rule, none, some, one_or_more, all, settles_by, Asks, nothing, drain, advance, flush, read, peek, snoop, write, through, outside, deed}
 
 pub record Book : Type 0 where
   pub mode : Mode
@@ -69,21 +69,20 @@ Allowed b c k = Admits (rule b c) (length (line b c)) k
 abbrev pub reading : Memory → ℕ → Result Answer Refusal
 reading m w = cond (m.readable w) (Ok (Word (m.word w))) (Err Unreadable)
 
+abbrev pub told_of : State → Asks → Result Answer Refusal
+told_of s nothing = Ok Done
+told_of s drain = Ok Done
+told_of s advance = Ok Done
+told_of s flush = Ok Done
+told_of s (read w) = reading (seen s) w
+told_of s (peek w) = reading s.settled w
+told_of s (snoop w) = Ok Done
+told_of s (write x) = Ok Done
+told_of s (through x) = Ok Done
+told_of s (outside x) = Ok Done
+
 abbrev pub says : State → Call → Result Answer Refusal
-says s (Read w) = reading (seen s) w
-says s (Post x) = Ok Done
-says s (Unposted x) = Ok Done
-says s Advance = Ok Done
-says s Lock = Ok Done
-says s (LockedRead w) = reading s.settled w
-says s (LockedWrite x) = Ok Done
-says s Unlock = Ok Done
-says s Ask = Ok Done
-says s (MasterRead w) = reading s.settled w
-says s (MasterWrite x) = Ok Done
-says s Give = Ok Done
-says s (Snoop w) = Ok Done
-says s Flush = Ok Done
+says s c = told_of s (deed c).asks
 
 abbrev pub unless : Option Refusal → Result Answer Refusal → Result Answer Refusal
 unless None r = r

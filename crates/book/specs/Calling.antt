@@ -11,7 +11,7 @@ use Rattle.port.specs.Steps.{reads, writes, advances, outsides, snoops, flushes,
 use Rattle.book.specs.declared.answer.Mode.{Mode}
 use Rattle.book.specs.declared.answer.Answer.{Answer}
 use Rattle.book.specs.declared.answer.Answer.TheVariants.{Done, Word}
-use Rattle.book.specs.Tables.{stop}
+use Rattle.book.specs.Tables.{stop, Asks, nothing, drain, advance, flush, read, peek, snoop, write, through, outside, deed}
 use Rattle.book.specs.Book.{book_of, Allowed, answer, step}
 
 -- The answers of calls that give no word, and of calls that give one.
@@ -30,21 +30,20 @@ pub record Through {P : Type 0} (G : Ghosts P) (w : Store) (p q : P) : Type 0 wh
   pub drains : ByAnswer (write_answer (G.state p) w) (Drains G.state G.does between q) (q ≡ between)
 
 -- The calls of the port that a call of the board makes. Settled reads change no port, and are not among them.
+abbrev pub MakesBy : {P : Type 0} → Ghosts P → Asks → P → P → Type 0
+MakesBy G nothing p q = q ≡ p
+MakesBy G drain p q = Drains G.state G.does p q
+MakesBy G advance p q = Chain G.does p (advances ∷ []) q
+MakesBy G flush p q = Chain G.does p (flushes ∷ []) q
+MakesBy G (read w) p q = Chain G.does p (reads w (read_answer (G.state p) w) ∷ []) q
+MakesBy G (peek w) p q = q ≡ p
+MakesBy G (snoop w) p q = Chain G.does p (snoops w (snoop_answer (G.state p) w) ∷ []) q
+MakesBy G (write s) p q = Chain G.does p (writes s (write_answer (G.state p) s) ∷ []) q
+MakesBy G (through s) p q = Through G s p q
+MakesBy G (outside s) p q = Chain G.does p (outsides s (write_answer (G.state p) s) ∷ []) q
+
 abbrev pub Makes : {P : Type 0} → Ghosts P → Call → P → P → Type 0
-Makes G (Read w) p q = Chain G.does p (reads w (read_answer (G.state p) w) ∷ []) q
-Makes G (Post s) p q = Chain G.does p (writes s (write_answer (G.state p) s) ∷ []) q
-Makes G (Unposted s) p q = Through G s p q
-Makes G Advance p q = Chain G.does p (advances ∷ []) q
-Makes G Lock p q = Drains G.state G.does p q
-Makes G (LockedRead w) p q = q ≡ p
-Makes G (LockedWrite s) p q = Through G s p q
-Makes G Unlock p q = q ≡ p
-Makes G Ask p q = q ≡ p
-Makes G (MasterRead w) p q = q ≡ p
-Makes G (MasterWrite s) p q = Chain G.does p (outsides s (write_answer (G.state p) s) ∷ []) q
-Makes G Give p q = q ≡ p
-Makes G (Snoop w) p q = Chain G.does p (snoops w (snoop_answer (G.state p) w) ∷ []) q
-Makes G Flush p q = Chain G.does p (flushes ∷ []) q
+Makes G c p q = MakesBy G (deed c).asks p q
 
 -- A call that the mode refuses reaches no port.
 abbrev pub Reaches : Option Refusal → Type 0 → Type 0 → Type 0

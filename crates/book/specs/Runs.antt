@@ -1,36 +1,43 @@
--- Many calls one after another, and the record that they leave: the calls, their answers, and how many writes settled at each.
+-- Many calls one after another, and the record that they leave.
 use Rattle.std.specs.Prelude.{◌≡◌, ℕ, ◌+◌, Bool, List, [], ◌∷◌, ◌++◌, map, take, drop, Ok, Err, Result}
 use Rattle.fault.specs.declared.Fault.{Fault}
 use Rattle.fault.specs.Numbers.{number_of}
 use Rattle.calls.specs.declared.call.Call.{Call}
-use Rattle.calls.specs.declared.call.Call.TheVariants.{Read, Write as Post, Unposted, Advance, Lock, LockedRead, LockedWrite, Unlock, Ask, MasterRead, MasterWrite, Give, Snoop, Flush}
 use Rattle.port.specs.declared.Store.{Store}
 use Rattle.port.specs.Memory.{line_of}
 use Rattle.book.specs.declared.answer.Mode.TheVariants.{Locked}
 use Rattle.book.specs.declared.answer.Answer.{Answer}
 use Rattle.book.specs.declared.answer.Answer.TheVariants.{Done}
-use Rattle.book.specs.Tables.{posts, masters_writes}
+use Rattle.book.specs.Tables.{Takers, every, unlocked, free, locked, granted, deed, posts, masters_writes, locks_writes}
 use Rattle.book.specs.Book.{Book, step, answer, Allowed}
 
--- THE BOOK, call after call, with one count for each
+-- One call of a run, its answer, and how many of the waiting writes settled at it.
+pub record Moment : Type 0 where
+  pub call : Call
+  pub answer : Result Answer Fault
+  pub count : ℕ
 
-abbrev pub after : Book → List Call → List ℕ → Book
-after b [] ks = b
-after b (c ∷ cs) [] = b
-after b (c ∷ cs) (k ∷ ks) = after (step b c k) cs ks
+abbrev pub moment : Call → Result Answer Fault → ℕ → Moment
+moment c r k = record { call = c; answer = r; count = k }
 
-abbrev pub answers : Book → List Call → List ℕ → List (Result Answer Fault)
-answers b [] ks = []
-answers b (c ∷ cs) [] = []
-answers b (c ∷ cs) (k ∷ ks) = answer b c ∷ answers (step b c k) cs ks
+abbrev pub calls_of : List Moment → List Call
+calls_of = map (λ m. m.call)
 
-abbrev pub Admitted : Book → List Call → List ℕ → Type 0
-Admitted b [] [] = Unit {0}
-Admitted b [] (k ∷ ks) = ⊥
-Admitted b (c ∷ cs) [] = ⊥
-Admitted b (c ∷ cs) (k ∷ ks) = Allowed b c k × Admitted (step b c k) cs ks
+abbrev pub answers_of : List Moment → List (Result Answer Fault)
+answers_of = map (λ m. m.answer)
 
--- THE RECORD, read without the book: a write was accepted if its call was answered as done
+-- THE BOOK, moment after moment
+
+abbrev pub after : Book → List Moment → Book
+after b [] = b
+after b (m ∷ ms) = after (step b m.call m.count) ms
+
+-- Each answer is the book's, and each count one that it allows.
+abbrev pub Follows : Book → List Moment → Type 0
+Follows b [] = Unit {0}
+Follows b (m ∷ ms) = Allowed b m.call m.count × (m.answer ≡ answer b m.call) × Follows (step b m.call m.count) ms
+
+-- THE LEDGER, read without the book: a write was accepted if its call was answered as done
 
 abbrev pub if_ok : {X : Type 0} → Result Answer Fault → List X → List X
 if_ok (Ok a) xs = xs
@@ -47,75 +54,55 @@ entry_of p w = record { write = w; protected = p (line_of w.word) }
 abbrev pub marked : (ℕ → Bool) → List Store → List Entry
 marked p ws = map (entry_of p) ws
 
--- The line es of waiting writes once the call's own has joined it.
-abbrev pub lined : (ℕ → Bool) → List Entry → Call → Result Answer Fault → List Entry
-lined p es c r = es ++ marked p (if_ok r (posts c))
+-- The writes of a run, each list with the oldest first.
+pub record Ledger : Type 0 where
+  -- the processor's that wait
+  pub waiting : List Entry
+  -- those that have settled: a master's at its call, a processor's as it leaves the line
+  pub settled : List Entry
+  -- the processor's among those
+  pub own : List Entry
+  -- the processor's accepted writes, in the order of their calls
+  pub accepted : List Entry
 
--- The writes that wait after the calls, the oldest first.
-abbrev pub waits : (ℕ → Bool) → List Entry → List Call → List (Result Answer Fault) → List ℕ → List Entry
-waits p es [] rs ks = es
-waits p es (c ∷ cs) [] ks = es
-waits p es (c ∷ cs) (r ∷ rs) [] = es
-waits p es (c ∷ cs) (r ∷ rs) (k ∷ ks) = waits p (drop k (lined p es c r)) cs rs ks
+abbrev pub blank : Ledger
+blank = record { waiting = []; settled = []; own = []; accepted = [] }
 
--- The writes that have settled, the oldest first: a master's at its call, a processor's as it leaves the line.
-abbrev pub history : (ℕ → Bool) → List Entry → List Call → List (Result Answer Fault) → List ℕ → List Entry
-history p es [] rs ks = []
-history p es (c ∷ cs) [] ks = []
-history p es (c ∷ cs) (r ∷ rs) [] = []
-history p es (c ∷ cs) (r ∷ rs) (k ∷ ks) =
-    marked p (if_ok r (masters_writes c)) ++ (take k (lined p es c r) ++ history p (drop k (lined p es c r)) cs rs ks)
+abbrev pub joined : (ℕ → Bool) → Moment → List Entry
+joined p m = marked p (if_ok m.answer (posts m.call))
 
--- The same without the masters' writes.
-abbrev pub processor_history : (ℕ → Bool) → List Entry → List Call → List (Result Answer Fault) → List ℕ → List Entry
-processor_history p es [] rs ks = []
-processor_history p es (c ∷ cs) [] ks = []
-processor_history p es (c ∷ cs) (r ∷ rs) [] = []
-processor_history p es (c ∷ cs) (r ∷ rs) (k ∷ ks) = take k (lined p es c r) ++ processor_history p (drop k (lined p es c r)) cs rs ks
+abbrev pub passed : (ℕ → Bool) → Moment → List Entry
+passed p m = marked p (if_ok m.answer (masters_writes m.call))
 
--- The processor's accepted writes, in the order of their calls.
-abbrev pub accepted : (ℕ → Bool) → List Call → List (Result Answer Fault) → List Entry
-accepted p [] rs = []
-accepted p (c ∷ cs) [] = []
-accepted p (c ∷ cs) (r ∷ rs) = marked p (if_ok r (posts c)) ++ accepted p cs rs
+abbrev pub entered : (ℕ → Bool) → Ledger → Moment → Ledger
+entered p l m = record {
+  waiting = drop m.count (l.waiting ++ joined p m);
+  settled = l.settled ++ (passed p m ++ take m.count (l.waiting ++ joined p m));
+  own = l.own ++ take m.count (l.waiting ++ joined p m);
+  accepted = l.accepted ++ joined p m;
+}
 
-abbrev pub total : List ℕ → ℕ
+abbrev pub ledger : (ℕ → Bool) → Ledger → List Moment → Ledger
+ledger p l [] = l
+ledger p l (m ∷ ms) = ledger p (entered p l m) ms
+
+abbrev pub total : List Moment → ℕ
 total [] = 0
-total (k ∷ ks) = k + total ks
+total (m ∷ ms) = m.count + total ms
 
 -- No master's write was accepted.
-abbrev pub Quiet : List Call → List (Result Answer Fault) → Type 0
-Quiet [] rs = Unit {0}
-Quiet (c ∷ cs) [] = Unit {0}
-Quiet (c ∷ cs) (r ∷ rs) = (if_ok r (masters_writes c) ≡ []) × Quiet cs rs
+abbrev pub Quiet : List Moment → Type 0
+Quiet [] = Unit {0}
+Quiet (m ∷ ms) = (if_ok m.answer (masters_writes m.call) ≡ []) × Quiet ms
 
--- The write that a call makes for the holder of the lock.
-abbrev pub locks_writes : Call → List Store
-locks_writes (Read w) = []
-locks_writes (Post s) = []
-locks_writes (Unposted s) = []
-locks_writes Advance = []
-locks_writes Lock = []
-locks_writes (LockedRead w) = []
-locks_writes (LockedWrite s) = s ∷ []
-locks_writes Unlock = []
-locks_writes Ask = []
-locks_writes (MasterRead w) = []
-locks_writes (MasterWrite s) = []
-locks_writes Give = []
-locks_writes (Snoop w) = []
-locks_writes Flush = []
-
-abbrev pub locked_writes : List Call → List (Result Answer Fault) → List Store
-locked_writes [] rs = []
-locked_writes (c ∷ cs) [] = []
-locked_writes (c ∷ cs) (r ∷ rs) = if_ok r (locks_writes c) ++ locked_writes cs rs
+abbrev pub locked_writes : List Moment → List Store
+locked_writes [] = []
+locked_writes (m ∷ ms) = if_ok m.answer (locks_writes m.call) ++ locked_writes ms
 
 -- The board is locked before each of the calls.
-abbrev pub Held : Book → List Call → List ℕ → Type 0
-Held b [] ks = Unit {0}
-Held b (c ∷ cs) [] = Unit {0}
-Held b (c ∷ cs) (k ∷ ks) = (b.mode ≡ Locked) × Held (step b c k) cs ks
+abbrev pub Held : Book → List Moment → Type 0
+Held b [] = Unit {0}
+Held b (m ∷ ms) = (b.mode ≡ Locked) × Held (step b m.call m.count) ms
 
 -- WHAT IS HEARD: words that the processor reads, and refusals by number and place; not what a master reads, nor floors
 
@@ -123,27 +110,21 @@ pub record Turned : Type 0 where
   pub number : ℕ
   pub place : ℕ
 
+abbrev pub unread_by : Takers → Answer → Answer
+unread_by every a = a
+unread_by unlocked a = a
+unread_by free a = a
+unread_by locked a = a
+unread_by granted a = Done
+
+-- Whatever only a grant allows is the master's, and is heard as done.
 abbrev pub unread : Call → Answer → Answer
-unread (Read w) a = a
-unread (Post s) a = a
-unread (Unposted s) a = a
-unread Advance a = a
-unread Lock a = a
-unread (LockedRead w) a = a
-unread (LockedWrite s) a = a
-unread Unlock a = a
-unread Ask a = a
-unread (MasterRead w) a = Done
-unread (MasterWrite s) a = a
-unread Give a = a
-unread (Snoop w) a = a
-unread Flush a = a
+unread c a = unread_by (deed c).takers a
 
 abbrev pub heard : Call → Result Answer Fault → Result Answer Turned
 heard c (Ok a) = Ok (unread c a)
 heard c (Err fault) = Err (record { number = number_of fault.refusal; place = fault.place })
 
-abbrev pub all_heard : List Call → List (Result Answer Fault) → List (Result Answer Turned)
-all_heard [] rs = []
-all_heard (c ∷ cs) [] = []
-all_heard (c ∷ cs) (r ∷ rs) = heard c r ∷ all_heard cs rs
+abbrev pub all_heard : List Moment → List (Result Answer Turned)
+all_heard [] = []
+all_heard (m ∷ ms) = heard m.call m.answer ∷ all_heard ms

@@ -35,22 +35,55 @@ if_granted Free = Some NotGranted
 if_granted Locked = Some NotGranted
 if_granted Granted = None
 
+-- How many of the waiting writes settle at a call.
+pub data Rule : Type 0 where
+  none some one_or_more all : Rule
+
+-- What the port is asked for. A write that is sent through has settled, with all before it, when the call returns.
+pub data Asks : Type 0 where
+  nothing drain advance flush : Asks
+  read peek snoop : ℕ → Asks
+  write through outside : Store → Asks
+
+-- The modes that take a call.
+pub data Takers : Type 0 where
+  every unlocked free locked granted : Takers
+
+-- A call, in one line: which modes take it, what it asks of the port, and the mode that it leads to, where it leads to another.
+pub record Deed : Type 0 where
+  pub takers : Takers
+  pub asks : Asks
+  pub leads : Option Mode
+
+abbrev pub deed_by : Takers → Asks → Option Mode → Deed
+deed_by takers asks leads = record { takers = takers; asks = asks; leads = leads }
+
+abbrev pub deed : Call → Deed
+deed (Read w) = deed_by unlocked (read w) None
+deed (Post s) = deed_by unlocked (write s) None
+deed (Unposted s) = deed_by unlocked (through s) None
+deed Advance = deed_by every advance None
+deed Lock = deed_by free drain (Some Locked)
+deed (LockedRead w) = deed_by locked (peek w) None
+deed (LockedWrite s) = deed_by locked (through s) None
+deed Unlock = deed_by locked nothing (Some Free)
+deed Ask = deed_by free nothing (Some Granted)
+deed (MasterRead w) = deed_by granted (peek w) None
+deed (MasterWrite s) = deed_by granted (outside s) None
+deed Give = deed_by granted nothing (Some Free)
+deed (Snoop w) = deed_by every (snoop w) None
+deed Flush = deed_by every flush None
+
 -- The refusal of the board itself, for its mode.
+abbrev pub stopped : Takers → Mode → Option Refusal
+stopped every m = None
+stopped unlocked m = unless_locked m
+stopped free m = if_free m
+stopped locked m = if_locked m
+stopped granted m = if_granted m
+
 abbrev pub stop : Mode → Call → Option Refusal
-stop m (Read w) = unless_locked m
-stop m (Post s) = unless_locked m
-stop m (Unposted s) = unless_locked m
-stop m Advance = None
-stop m Lock = if_free m
-stop m (LockedRead w) = if_locked m
-stop m (LockedWrite s) = if_locked m
-stop m Unlock = if_locked m
-stop m Ask = if_free m
-stop m (MasterRead w) = if_granted m
-stop m (MasterWrite s) = if_granted m
-stop m Give = if_granted m
-stop m (Snoop w) = None
-stop m Flush = None
+stop m c = stopped (deed c).takers m
 
 -- The refusals of a port of so many words, but for an unreadable word.
 abbrev pub in_range : ℕ → ℕ → Option Refusal
@@ -97,72 +130,67 @@ if_taken None taken refused = taken
 if_taken (Some r) taken refused = refused
 
 -- The processor's write that a call brings.
+abbrev pub joining : Asks → List Store
+joining nothing = []
+joining drain = []
+joining advance = []
+joining flush = []
+joining (read w) = []
+joining (peek w) = []
+joining (snoop w) = []
+joining (write s) = s ∷ []
+joining (through s) = s ∷ []
+joining (outside s) = []
+
 abbrev pub posts : Call → List Store
-posts (Read w) = []
-posts (Post s) = s ∷ []
-posts (Unposted s) = s ∷ []
-posts Advance = []
-posts Lock = []
-posts (LockedRead w) = []
-posts (LockedWrite s) = s ∷ []
-posts Unlock = []
-posts Ask = []
-posts (MasterRead w) = []
-posts (MasterWrite s) = []
-posts Give = []
-posts (Snoop w) = []
-posts Flush = []
+posts c = joining (deed c).asks
 
 -- The master's write that a call brings.
+abbrev pub passing : Asks → List Store
+passing nothing = []
+passing drain = []
+passing advance = []
+passing flush = []
+passing (read w) = []
+passing (peek w) = []
+passing (snoop w) = []
+passing (write s) = []
+passing (through s) = []
+passing (outside s) = s ∷ []
+
 abbrev pub masters_writes : Call → List Store
-masters_writes (Read w) = []
-masters_writes (Post s) = []
-masters_writes (Unposted s) = []
-masters_writes Advance = []
-masters_writes Lock = []
-masters_writes (LockedRead w) = []
-masters_writes (LockedWrite s) = []
-masters_writes Unlock = []
-masters_writes Ask = []
-masters_writes (MasterRead w) = []
-masters_writes (MasterWrite s) = s ∷ []
-masters_writes Give = []
-masters_writes (Snoop w) = []
-masters_writes Flush = []
+masters_writes c = passing (deed c).asks
+
+-- The write that a call makes for the holder of the lock.
+abbrev pub if_theirs : Takers → List Store → List Store
+if_theirs every ws = []
+if_theirs unlocked ws = []
+if_theirs free ws = []
+if_theirs locked ws = ws
+if_theirs granted ws = []
+
+abbrev pub locks_writes : Call → List Store
+locks_writes c = if_theirs (deed c).takers (posts c)
 
 -- The mode that a call leads to.
-abbrev pub goes_to : Mode → Call → Mode
-goes_to m (Read w) = m
-goes_to m (Post s) = m
-goes_to m (Unposted s) = m
-goes_to m Advance = m
-goes_to m Lock = Locked
-goes_to m (LockedRead w) = m
-goes_to m (LockedWrite s) = m
-goes_to m Unlock = Free
-goes_to m Ask = Granted
-goes_to m (MasterRead w) = m
-goes_to m (MasterWrite s) = m
-goes_to m Give = Free
-goes_to m (Snoop w) = m
-goes_to m Flush = m
+abbrev pub led : Option Mode → Mode → Mode
+led None m = m
+led (Some n) m = n
 
--- How many of the waiting writes settle at a call.
-pub data Rule : Type 0 where
-  none some one_or_more all : Rule
+abbrev pub goes_to : Mode → Call → Mode
+goes_to m c = led (deed c).leads m
+
+abbrev pub settling_at : Asks → Rule
+settling_at nothing = none
+settling_at drain = all
+settling_at advance = one_or_more
+settling_at flush = none
+settling_at (read w) = some
+settling_at (peek w) = none
+settling_at (snoop w) = none
+settling_at (write s) = some
+settling_at (through s) = all
+settling_at (outside s) = none
 
 abbrev pub settles_by : Call → Rule
-settles_by (Read w) = some
-settles_by (Post s) = some
-settles_by (Unposted s) = all
-settles_by Advance = one_or_more
-settles_by Lock = all
-settles_by (LockedRead w) = none
-settles_by (LockedWrite s) = all
-settles_by Unlock = none
-settles_by Ask = none
-settles_by (MasterRead w) = none
-settles_by (MasterWrite s) = none
-settles_by Give = none
-settles_by (Snoop w) = none
-settles_by Flush = none
+settles_by c = settling_at (deed c).asks

@@ -10,7 +10,8 @@ use Rattle.port.specs.Memory.{State, posted, outside, raised}
 use Rattle.port.specs.Meaning.{Settles, Advances, ByAnswer, read_answer, write_answer, writable, unreadable}
 use Rattle.port.specs.Steps.{Step, reads, advances, Chain, done, then}
 use Rattle.port.proofs.Settling.{settles_then, settles_under, settles_raised, settles_length}
-use Rattle.port.proofs.Checking.{Answer, InRange, as_ok, in_ok}
+use Rattle.port.specs.Checks.{InRange}
+use Rattle.port.proofs.Checking.{Answer, as_ok, in_ok}
 use Rattle.port.proofs.Chains.{chain_append}
 use Rattle.directory.specs.declared.fills.Fill.{Fill}
 use Rattle.directory.specs.Dirs.{Dir, line_of, found}

@@ -6,7 +6,7 @@ ghost use Rattle.cache_tables.specs.Coherence.{Coherent};
 use cache_tables::Tables;
 use directory::WayState;
 use fault::{Fault, Refusal};
-use port::{Port, Store, check_range, check_write};
+use port::{Port, Store, check_above, check_range, check_store_above};
 
 /// A port that keeps lines of the port below.
 #[derive(Drop)]
@@ -161,7 +161,7 @@ impl<P: Port> Port for Cache<P> {
     }
 
     fn read(&mut self, word: u32) -> Result<u16, Fault> {
-        check_range(word, self.words(), self.floor())?;
+        check_above(&self.below, word)?;
         if let Some(value) = self.tables.buffered(word) {
             return Ok(value);
         }
@@ -176,7 +176,7 @@ impl<P: Port> Port for Cache<P> {
     }
 
     fn write(&mut self, write: Store) -> Result<(), Fault> {
-        check_write(write, self.words(), self.floor())?;
+        check_store_above(&self.below, write)?;
         self.make_ready(write.word / 8);
         self.tables.change(write);
         self.below.write(write)
@@ -188,18 +188,18 @@ impl<P: Port> Port for Cache<P> {
     }
 
     fn settled_read(&self, word: u32) -> Result<u16, Fault> {
-        check_range(word, self.words(), self.floor())?;
+        check_above(&self.below, word)?;
         self.below.settled_read(word)
     }
 
     fn outside_write(&mut self, write: Store) -> Result<(), Fault> {
-        check_write(write, self.words(), self.floor())?;
+        check_store_above(&self.below, write)?;
         self.tables.drop_line(write.word / 8);
         self.below.outside_write(write)
     }
 
     fn snoop(&mut self, word: u32) -> Result<(), Fault> {
-        check_range(word, self.words(), self.floor())?;
+        check_above(&self.below, word)?;
         self.tables.drop_line(word / 8);
         self.below.snoop(word)
     }

@@ -3,7 +3,6 @@ use Rattle.std.proofs.Common.{◌≡◌, ℕ, List, [], ◌∷◌, ◌++◌, Som
 use Rattle.fault.specs.declared.Fault.{Fault}
 use Rattle.fault.specs.declared.Refusal.{Refusal}
 use Rattle.calls.specs.declared.call.Call.{Call}
-use Rattle.calls.specs.declared.call.Call.TheVariants.{Read, Write as Post, Unposted, Advance, Lock, LockedRead, LockedWrite, Unlock, Ask, MasterRead, MasterWrite, Give, Snoop, Flush}
 use Rattle.port.specs.declared.Store.{Store}
 use Rattle.port.specs.declared.Port.{Ghosts}
 use Rattle.port.specs.Meaning.{write_answer, waiting_answer, ByAnswer}
@@ -17,8 +16,9 @@ use Rattle.cache.specs.Runs.{OnlyReadsAreKept}
 use Rattle.port.proofs.Chains.{chain_append}
 use Rattle.book.specs.declared.answer.Mode.{Mode}
 use Rattle.book.specs.declared.answer.Answer.{Answer}
-use Rattle.book.specs.Tables.{stop}
-use Rattle.book.specs.Calling.{Through, Makes, Reaches}
+use Rattle.book.specs.Tables.{stop, Asks, nothing, drain, advance, flush, read, peek, snoop, write, through, outside, deed}
+use Rattle.book.specs.Calling.{Through, Makes, MakesBy, Reaches}
+use Rattle.book.specs.Runs.{Moment}
 use Rattle.book.specs.Promise.{CallsMade, none_made, one_more, NeverAnOldDigit}
 use Rattle.card.specs.Stages.{buffer_ghosts, Pile, pile_state, pile_ghosts, Fresh, Reached, RunOnTheStages}
 
@@ -41,34 +41,29 @@ module _ {P : Type 0} (G : Ghosts P) where
   through_reached : (w : Store) (p q : P) → Through G w p q → Reached G.does p q
   through_reached w p q t = wrote_reached w p t.between q (write_answer (G.state p) w) t.wrote t.drains
 
-  made_reached : (c : Call) (p q : P) → Makes G c p q → Reached G.does p q
-  made_reached (Read w) p q h = record { calls = _; chain = h }
-  made_reached (Post s) p q h = record { calls = _; chain = h }
-  made_reached (Unposted s) p q h = through_reached s p q h
-  made_reached Advance p q h = record { calls = _; chain = h }
-  made_reached Lock p q h = drains_reached p q h
-  made_reached (LockedRead w) p q h = same_reached p q h
-  made_reached (LockedWrite s) p q h = through_reached s p q h
-  made_reached Unlock p q h = same_reached p q h
-  made_reached Ask p q h = same_reached p q h
-  made_reached (MasterRead w) p q h = same_reached p q h
-  made_reached (MasterWrite s) p q h = record { calls = _; chain = h }
-  made_reached Give p q h = same_reached p q h
-  made_reached (Snoop w) p q h = record { calls = _; chain = h }
-  made_reached Flush p q h = record { calls = _; chain = h }
+  asked_reached : (a : Asks) (p q : P) → MakesBy G a p q → Reached G.does p q
+  asked_reached nothing p q h = same_reached p q h
+  asked_reached drain p q h = drains_reached p q h
+  asked_reached advance p q h = record { calls = _; chain = h }
+  asked_reached flush p q h = record { calls = _; chain = h }
+  asked_reached (read w) p q h = record { calls = _; chain = h }
+  asked_reached (peek w) p q h = same_reached p q h
+  asked_reached (snoop w) p q h = record { calls = _; chain = h }
+  asked_reached (write s) p q h = record { calls = _; chain = h }
+  asked_reached (through s) p q h = through_reached s p q h
+  asked_reached (outside s) p q h = record { calls = _; chain = h }
 
   called_reached : (o : Option Refusal) (c : Call) (p q : P) → Reaches o (Makes G c p q) (q ≡ p) → Reached G.does p q
-  called_reached None c p q h = made_reached c p q h
+  called_reached None c p q h = asked_reached (deed c).asks p q h
   called_reached (Some r) c p q h = same_reached p q h
 
-  calls_reached : (m : Mode) (p : P) (cs : List Call) (rs : List (Result Answer Fault)) (ks : List ℕ) (n : Mode) (q : P)
-      → CallsMade G m p cs rs ks n q → Reached G.does p q
-  calls_reached m p _ _ _ _ _ none_made = record { calls = []; chain = done }
-  calls_reached m p _ _ _ _ _ (one_more {n = n} {o = o} {q = q} {u = u} {c = c} {r = r} {cs = cs} {rs = rs} {ks = ks} t h) =
-      both_reached p q u (calls_reached m p cs rs ks n q t) (called_reached (stop n c) c q u h.made)
+  calls_reached : (m : Mode) (p : P) (run : List Moment) (n : Mode) (q : P) → CallsMade G m p run n q → Reached G.does p q
+  calls_reached m p _ _ _ none_made = record { calls = []; chain = done }
+  calls_reached m p _ _ _ (one_more {n = n} {o = o} {q = q} {u = u} {c = c} {r = r} {ms = ms} t h) =
+      both_reached p q u (calls_reached m p ms n q t) (called_reached (stop n c) c q u h.made)
 
   run_reached : (p : P) (cs : List Call) (rs : List (Result Answer Fault)) (m : Mode) (q : P) → NeverAnOldDigit G p cs rs m q → Reached G.does p q
-  run_reached p cs rs m q h = both_reached p h.made q (drains_reached p h.made h.drains) (calls_reached _ _ _ _ _ _ _ h.calls_made)
+  run_reached p cs rs m q h = both_reached p h.made q (drains_reached p h.made h.drains) (calls_reached _ _ _ _ _ h.calls_made)
 
 -- Stages put on a memory one after another, and taken off it again.
 module _ {P : Type 0} {G : Ghosts P} where

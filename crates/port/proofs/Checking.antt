@@ -4,6 +4,7 @@ use Rattle.std.specs.Result.{result_and}
 use Rattle.std.proofs.lemmas.Bool.{ltb-true}
 use Rattle.fault.specs.declared.Fault.{Fault}
 use Rattle.port.specs.Memory.{State, raised}
+use Rattle.port.specs.Checks.{InRange, Writable}
 use Rattle.port.specs.Meaning.{within, writable, laned, past_end, bad_lanes, ByAnswer}
 
 abbrev pub Answer : Type 0
@@ -41,12 +42,6 @@ tests_true : (a b : Bool) (d e : Fault) → result_and (tested a d) (tested b e)
 tests_true true b d e h = refl
 tests_true false b d e h = not_refused d h
 
--- a word or line in range: by the stage's own check, by that of the port below, and as a number
-pub record InRange (s : State) (place : ℕ) : Type 0 where
-  pub own : within place s.facts.words (raised s).facts.floor ≡ Ok tt
-  pub below : within place s.facts.words s.facts.floor ≡ Ok tt
-  pub inside : place < s.facts.words
-
 pub in_range_lem : (s : State) (place end floor : ℕ) → Ok tt ≡ within place end floor → end ≡ s.facts.words → floor ≡ (raised s).facts.floor → InRange s place
 in_range_lem s place end floor h e f =
     let own = sym (h ∙ ap (λ (x : ℕ). within place x floor) e ∙ ap (λ (x : ℕ). within place s.facts.words x) f) in
@@ -56,11 +51,6 @@ in_range_lem s place end floor h e f =
       below = test_any test (past_end place (raised s).facts.floor) (past_end place s.facts.floor) own;
       inside = ltb-true place s.facts.words (test_true test (past_end place (raised s).facts.floor) own);
     }
-
-pub record Writable (s : State) (place lanes : ℕ) : Type 0 where
-  pub own : writable place lanes s.facts.words (raised s).facts.floor ≡ Ok tt
-  pub below : writable place lanes s.facts.words s.facts.floor ≡ Ok tt
-  pub inside : place < s.facts.words
 
 pub can_write : (s : State) (place lanes end floor : ℕ) → Ok tt ≡ writable place lanes end floor → end ≡ s.facts.words → floor ≡ (raised s).facts.floor → Writable s place lanes
 can_write s place lanes end floor h e f =

@@ -1,10 +1,11 @@
 //! One memory port: what every port means, and what the stages above it may rest on.
 #![tactic(auto)]
 
-ghost use Rattle.std.specs.Prelude.{◌≡◌, ℕ, ◌%◌, ◌≤◌, [], ◌∷◌};
+ghost use Rattle.std.specs.Prelude.{◌≡◌, ℕ, ◌%◌, ◌≤◌, [], ◌∷◌, OnOk};
 ghost use Rattle.port.specs.Lanes.{joined};
-ghost use Rattle.port.specs.Memory.{State, seen, posted, drained, outside};
+ghost use Rattle.port.specs.Memory.{State, seen, posted, drained, outside, raised};
 ghost use Rattle.port.specs.Meaning.{within, writable, read_answer, settled_answer, write_answer, snoop_answer, marks_answer, waiting_answer, Settles, Advances, ByAnswer, Kept};
+ghost use Rattle.port.specs.Checks.{InRange, Writable};
 ghost use Rattle.port.specs.Steps.{Step, reads, writes, advances, outsides, snoops, flushes, Drains};
 ghost use Rattle.port.specs.Laws.{SettlingIsLawful};
 
@@ -136,6 +137,22 @@ pub trait Port {
     fn flush(&mut self)
         ensures after { state self.new ≡ state self.old }
         ensures did { does self.old flushes self.new };
+}
+
+/// Refuses a word past the end, on the floor of a stage over the port.
+pub fn check_above<P: Port>(below: &P, word: u32) -> Result<(), Fault>
+    ensures value { result ≡ snoop_answer (raised (P.state below.now)) word }
+    ensures passed { OnOk result (InRange (P.state below.now) word) }
+{
+    check_range(word, below.words(), below.floor().saturating_add(1))
+}
+
+/// Refuses a write past the end, and then one of no known lanes, on the floor of a stage over the port.
+pub fn check_store_above<P: Port>(below: &P, write: Store) -> Result<(), Fault>
+    ensures value { result ≡ write_answer (raised (P.state below.now)) write }
+    ensures passed { OnOk result (Writable (P.state below.now) write.word write.lanes) }
+{
+    check_write(write, below.words(), below.floor().saturating_add(1))
 }
 
 /// Advances a port until none of its writes waits.

@@ -1,5 +1,5 @@
 -- Where nothing waits, the book leaves no choice: each of these calls has one answer and one book after it.
-use Rattle.std.proofs.Common.{◌≡◌, ℕ, ◌≤◌, true, ltb, List, [], ◌∷◌, Ok, Result, refl, ap, ◌∙◌, subst, arith}
+use Rattle.std.proofs.Common.{◌≡◌, ℕ, ◌≤◌, true, ltb, List, [], ◌∷◌, Ok, Result, refl, ap, ◌∙◌, subst, ap₂, arith}
 use Rattle.fault.specs.declared.Fault.{Fault}
 use Rattle.calls.specs.declared.call.Call.{Call}
 use Rattle.calls.specs.declared.call.Call.TheVariants.{Read, Unposted, Advance, Ask, MasterWrite, Give, Flush}
@@ -9,7 +9,7 @@ use Rattle.book.specs.declared.answer.Mode.TheVariants.{Free, Granted}
 use Rattle.book.specs.declared.answer.Answer.{Answer}
 use Rattle.book.specs.declared.answer.Answer.TheVariants.{Done, Word}
 use Rattle.book.specs.Book.{Book, book_of, step, answer, Allowed}
-use Rattle.book.specs.Runs.{answers, Admitted}
+use Rattle.book.specs.Runs.{Moment, calls_of, answers_of, Follows}
 
 -- The book of a board in mode m whose memory is now mem, with nothing waiting.
 abbrev pub still : Mode → State → Memory → Book
@@ -24,16 +24,17 @@ pub data AllForced : Book → List Call → List (Result Answer Fault) → Type 
   over : {b : Book} → AllForced b [] []
   then : {b e : Book} {c : Call} {r : Result Answer Fault} {cs : List Call} {rs : List (Result Answer Fault)} → Forced b c e r → AllForced e cs rs → AllForced b (c ∷ cs) (r ∷ rs)
 
-pub forced_answers : {b : Book} {cs : List Call} {rs : List (Result Answer Fault)} (ks : List ℕ) → AllForced b cs rs → Admitted b cs ks → answers b cs ks ≡ rs
-forced_answers [] over a = refl
-forced_answers [] (then f more) a = elim a [ ]
-forced_answers (k ∷ ks) over a = elim a [ ]
-forced_answers (k ∷ ks) (then {cs = cs} f more) a =
-    let e = f.leads k a.0 in
-    let h = forced_answers ks more (subst (λ (x : Book). Admitted x cs ks) e a.1) in
-    let g = ap (λ (x : Book). answers x cs ks) e ∙ h in
-    let says = f.says in
-    λ i. says i ∷ g i
+pub forced_answers : {b : Book} {cs : List Call} {rs : List (Result Answer Fault)} (run : List Moment) → AllForced b cs rs → calls_of run ≡ cs → Follows b run → answers_of run ≡ rs
+forced_answers [] over e f = refl
+forced_answers [] (then g more) e f = let z : ◌≡◌ {A = ℕ} 0 1 = cc in absurd (omega arith)
+forced_answers (m ∷ run) over e f = let z : ◌≡◌ {A = ℕ} 0 1 = cc in absurd (omega arith)
+forced_answers {b = b} (m ∷ run) (then {c = c} {cs = cs} {rs = rs} g more) e f =
+    let same : m.call ≡ c = cc in
+    let others : calls_of run ≡ cs = cc in
+    let allowed = subst (λ (x : Call). Allowed b x m.count) same f.0 in
+    let next : step b m.call m.count ≡ _ = ap (λ (x : Call). step b x m.count) same ∙ g.leads m.count allowed in
+    let head = f.1 ∙ ap (answer b) same ∙ g.says in
+    ap₂ {C = List (Result Answer Fault)} (λ x xs. x ∷ xs) head (forced_answers run more others (subst (λ (x : Book). Follows x run) next f.2))
 
 pub unposted : (s : State) (mem : Memory) (word value : ℕ) → ltb word s.facts.words ≡ true
     → Forced (still Free s mem) (Unposted (record { word = word; lanes = 3; value = value })) (still Free s (stored s.protected (record { word = word; lanes = 3; value = value }) mem)) (Ok Done)

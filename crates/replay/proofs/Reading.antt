@@ -1,5 +1,5 @@
 -- The answers to the calls of the incident, on every board whose row stands, and the rows taken out of them.
-use Rattle.std.proofs.Common.{◌≡◌, ℕ, ◌+◌, Bool, true, false, cond, ltb, List, [], ◌∷◌, ◌++◌, Some, Ok, Option, Result, refl, ap, ◌∙◌, subst, arith, lt-ltb}
+use Rattle.std.proofs.Common.{sym, ◌≡◌, ℕ, ◌+◌, Bool, true, false, cond, ltb, List, [], ◌∷◌, ◌++◌, Some, Ok, Option, Result, refl, ap, ◌∙◌, subst, arith, lt-ltb}
 use mir.Val.{bool_byte}
 use Rattle.fault.specs.declared.Fault.{Fault}
 use Rattle.calls.specs.declared.call.Call.{Call}
@@ -97,7 +97,7 @@ pub rows_read : {P : Type 0} (G : Ghosts P) (p : P) (clear : Bool) (rs : List (R
     → MadeOnABoard G p (incident_calls clear) rs → RowsAreTheAnswers clear rs before after → RowStands (G.state p) → ReadsTheNewestRow clear before after
 rows_read G p clear rs before after made taken stands =
     let run = made.promise in
-    let all : rs ≡ incident_answers clear = run.answers_are_the_books ∙ forced_answers run.counts (incident_forced (G.state p) clear stands) run.admitted in
+    let all : rs ≡ incident_answers clear = sym run.answers ∙ forced_answers run.run (incident_forced (G.state p) clear stands) run.calls run.follows_the_book in
     record {
       as_stored = taken.first_reading ∙ ap (λ (x : List (Result Answer Fault)). row_at x 3) all;
       as_cleared = taken.from_last_reading ∙ (ap (λ (x : List (Result Answer Fault)). row_at x (last_reading clear)) all ∙ last_row clear);

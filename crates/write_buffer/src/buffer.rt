@@ -5,7 +5,7 @@ ghost use Rattle.write_buffer.specs.Taking.{Takes, Takes-prop};
 use super::queue::Queue;
 use super::sending::{send, send_all, send_on};
 use fault::Fault;
-use port::{Port, Store, check_range, check_write};
+use port::{Port, Store, check_above, check_range, check_store_above};
 
 /// A port whose processor writes wait in a queue before they go to the port below.
 #[derive(Drop)]
@@ -69,13 +69,13 @@ impl<P: Port> Port for WriteBuffer<P> {
     }
 
     fn read(&mut self, word: u32) -> Result<u16, Fault> {
-        check_range(word, self.words(), self.floor())?;
+        check_above(&self.below, word)?;
         send_all(&mut self.below, &mut self.queue);
         self.below.read(word)
     }
 
     fn write(&mut self, write: Store) -> Result<(), Fault> {
-        check_write(write, self.words(), self.floor())?;
+        check_store_above(&self.below, write)?;
         if let Some(oldest) = self.queue.push(write) {
             send(&mut self.below, oldest);
         }
@@ -91,17 +91,17 @@ impl<P: Port> Port for WriteBuffer<P> {
     }
 
     fn settled_read(&self, word: u32) -> Result<u16, Fault> {
-        check_range(word, self.words(), self.floor())?;
+        check_above(&self.below, word)?;
         self.below.settled_read(word)
     }
 
     fn outside_write(&mut self, write: Store) -> Result<(), Fault> {
-        check_write(write, self.words(), self.floor())?;
+        check_store_above(&self.below, write)?;
         self.below.outside_write(write)
     }
 
     fn snoop(&mut self, word: u32) -> Result<(), Fault> {
-        check_range(word, self.words(), self.floor())?;
+        check_above(&self.below, word)?;
         self.below.snoop(word)
     }
 

@@ -1,5 +1,5 @@
 use Rattle.std.proofs.Common.{rules}
-use Rattle.book.proofs.Running.{pair_alike, the_book_is_sound}
+use Rattle.book.proofs.Running.{both_keep, the_book_is_sound}
 use Rattle.board.proofs.whole.compare.Goals as goal
 
 pub returns-in_default : goal.returns-in_default
@@ -9,4 +9,4 @@ pub returns-in_default-with_capacity : goal.returns-in_default-with_capacity
 returns-in_default-with_capacity g c = search (rules, the_book_is_sound)
 
 pub returns : goal.returns
-returns g c = search (rules, pair_alike, the_book_is_sound)
+returns g c = search (rules, both_keep, the_book_is_sound)

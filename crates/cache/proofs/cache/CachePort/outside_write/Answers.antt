@@ -1,5 +1,4 @@
 use Rattle.std.proofs.Common.{rules}
-use Rattle.port.proofs.Checking.{can_write}
 use Rattle.cache.proofs.Calling.{answered_outside, takes_answered}
 use Rattle.cache.proofs.cache.CachePort.outside_write.Goals as goal
 
@@ -7,7 +6,7 @@ pub invariant_of-self : goal.invariant_of-self
 invariant_of-self g c =
     let s = g.P.Port.state c.args.self.now.below in
     let w = c.args.write in
-    let h = can_write s w.word w.lanes c.words.result c.floor.result c.in_ok-check_write.ensures c.words.ensures.value c.floor.ensures in
+    let h = c.in_ok-check_store_above.ensures.passed in
     let kept = c.args.self.now.coherent in
     search (rules, answered_outside)
 
@@ -15,5 +14,5 @@ pub returns-clause-did : goal.returns-clause-did
 returns-clause-did g c =
     let s = g.P.Port.state c.args.self.now.below in
     let w = c.args.write in
-    let h = can_write s w.word w.lanes c.words.result c.floor.result c.in_ok-check_write.ensures c.words.ensures.value c.floor.ensures in
+    let h = c.in_ok-check_store_above.ensures.passed in
     search (rules, takes_answered)

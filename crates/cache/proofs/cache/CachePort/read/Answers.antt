@@ -1,7 +1,7 @@
 use Rattle.std.proofs.Common.{[], refl}
 use Rattle.port.specs.Steps.{done}
 use Rattle.port.proofs.Settling.{settles_then, settles_raised}
-use Rattle.port.proofs.Checking.{in_range_lem, as_ok}
+use Rattle.port.proofs.Checking.{as_ok}
 use Rattle.port.proofs.Chains.{chain_append}
 use Rattle.cache_tables.specs.Showing.{shown}
 use Rattle.cache_tables.specs.Rules.{model, turn, touched_by}
@@ -14,7 +14,7 @@ returns-in-Some-clause-did g c =
     let s = g.P.Port.state c.args.self.now.below in
     let m = model c.args.self.now.tables in
     let w = c.args.word in
-    let h = in_range_lem s w c.words.result c.floor.result c.in_ok-check_range.ensures c.words.ensures.value c.floor.ensures in
+    let h = c.in_ok-check_above.ensures.passed in
     as_ok _ _ _ h.below (takes_as (turn m []) _ (turn_buffered (shown s) m w c.in-Some.value c.in-Some.ensures) (record { tables = refl; below = done }))
 
 pub invariant_of-self : goal.invariant_of-self
@@ -26,7 +26,7 @@ returns-in-Some-hit-clause-value g c =
     let s = g.P.Port.state c.args.self.now.below in
     let m = model c.args.self.now.tables in
     let w = c.args.word in
-    let h = in_range_lem s w c.words.result c.floor.result c.in_ok-check_range.ensures c.words.ensures.value c.floor.ensures in
+    let h = c.in_ok-check_above.ensures.passed in
     told_above s w _ h (sees_reading (shown s) w c.in-Some-hit.value (hit_sees (shown s) m w c.in-Some-hit.value c.args.self.now.coherent c.in-Some-hit.ensures.value))
 
 pub returns-in-Some-hit-clause-did : goal.returns-in-Some-hit-clause-did
@@ -34,7 +34,7 @@ returns-in-Some-hit-clause-did g c =
     let s = g.P.Port.state c.args.self.now.below in
     let m = model c.args.self.now.tables in
     let w = c.args.word in
-    let h = in_range_lem s w c.words.result c.floor.result c.in_ok-check_range.ensures c.words.ensures.value c.floor.ensures in
+    let h = c.in_ok-check_above.ensures.passed in
     as_ok _ _ _ h.below (takes_as (turn (touched_by m w) []) _ (turn_hit (shown s) m w c.in_default.ensures c.in-Some-hit.value c.in-Some-hit.ensures.value) (record { tables = c.hit.ensures.after; below = done }))
 
 pub invariant_of-self-2 : goal.invariant_of-self-2
@@ -47,7 +47,7 @@ returns-in-Some-hit-2-clause-value g c =
     let t = g.P.Port.state c.finish.new.self.below in
     let k = model c.finish.new.self.tables in
     let w = c.args.word in
-    let h = in_range_lem s w c.words.result c.floor.result c.in_ok-check_range.ensures c.words.ensures.value c.floor.ensures in
+    let h = c.in_ok-check_above.ensures.passed in
     let x = c.in-Some-hit-2.value in
     told_above s w _ h (sees_reading (shown s) w x (sees_before s t w x c.finish.ensures.after (hit_sees (shown t) k w x c.finish.new.self.coherent c.in-Some-hit-2.ensures.value)))
 
@@ -56,7 +56,7 @@ returns-clause-value g c =
     let s = g.P.Port.state c.args.self.now.below in
     let t = g.P.Port.state c.finish.new.self.below in
     let w = c.args.word in
-    let h = in_range_lem s w c.words.result c.floor.result c.in_ok-check_range.ensures c.words.ensures.value c.floor.ensures in
+    let h = c.in_ok-check_above.ensures.passed in
     told_above s w c.miss.result h (reading_before s t w c.miss.result c.finish.ensures.after c.miss.ensures.value)
 
 pub returns-clause-after : goal.returns-clause-after
@@ -83,7 +83,7 @@ miss-requires-clause-absent g c =
 pub returns-in-Some-hit-2-clause-did : goal.returns-in-Some-hit-2-clause-did
 returns-in-Some-hit-2-clause-did g c =
     let s = g.P.Port.state c.args.self.now.below in
-    let h = in_range_lem s c.args.word c.words.result c.floor.result c.in_ok-check_range.ensures c.words.ensures.value c.floor.ensures in
+    let h = c.in_ok-check_above.ensures.passed in
     let looked : LookedAgain (g.P.Port.state c.args.self.now.below) (g.P.Port.state c.finish.new.self.below) (model c.args.self.now.tables) (model c.hit.new.self) (model c.finish.new.self.tables) (model c.hit-2.new.self) c.args.word =
     record { after = c.finish.ensures.after; first = c.hit.ensures.after; absent = c.in_default-hit.ensures.value; finishes = c.finish.ensures.did.tables; second = c.hit-2.ensures.after }
     in
@@ -92,7 +92,7 @@ returns-in-Some-hit-2-clause-did g c =
 pub returns-clause-did : goal.returns-clause-did
 returns-clause-did g c =
     let s = g.P.Port.state c.args.self.now.below in
-    let h = in_range_lem s c.args.word c.words.result c.floor.result c.in_ok-check_range.ensures c.words.ensures.value c.floor.ensures in
+    let h = c.in_ok-check_above.ensures.passed in
     let looked : LookedAgain (g.P.Port.state c.args.self.now.below) (g.P.Port.state c.finish.new.self.below) (model c.args.self.now.tables) (model c.hit.new.self) (model c.finish.new.self.tables) (model c.hit-2.new.self) c.args.word =
     record { after = c.finish.ensures.after; first = c.hit.ensures.after; absent = c.in_default-hit.ensures.value; finishes = c.finish.ensures.did.tables; second = c.hit-2.ensures.after }
     in

@@ -1,17 +1,16 @@
 use Rattle.std.proofs.Common.{rules}
-use Rattle.port.proofs.Checking.{in_range_lem}
 use Rattle.cache.proofs.Calling.{answered_dropped, takes_answered}
 use Rattle.cache.proofs.cache.CachePort.snoop.Goals as goal
 
 pub invariant_of-self : goal.invariant_of-self
 invariant_of-self g c =
     let s = g.P.Port.state c.args.self.now.below in
-    let h = in_range_lem s c.args.word c.words.result c.floor.result c.in_ok-check_range.ensures c.words.ensures.value c.floor.ensures in
+    let h = c.in_ok-check_above.ensures.passed in
     let kept = c.args.self.now.coherent in
     search (rules, answered_dropped)
 
 pub returns-clause-did : goal.returns-clause-did
 returns-clause-did g c =
     let s = g.P.Port.state c.args.self.now.below in
-    let h = in_range_lem s c.args.word c.words.result c.floor.result c.in_ok-check_range.ensures c.words.ensures.value c.floor.ensures in
+    let h = c.in_ok-check_above.ensures.passed in
     search (rules, takes_answered)

@@ -1,6 +1,6 @@
 use Rattle.std.proofs.Common.{ap, ◌∙◌}
 use Rattle.port.specs.Steps.{done, then}
-use Rattle.port.proofs.Checking.{can_write, as_ok, in_ok}
+use Rattle.port.proofs.Checking.{as_ok, in_ok}
 use Rattle.port.proofs.Chains.{chain_append}
 use Rattle.cache_tables.specs.Rules.{Model, model, written}
 use Rattle.cache.proofs.Calling.{write_kept, write_settles, taken_later}
@@ -13,7 +13,7 @@ invariant_of-self g c =
     let u = g.P.Port.state c.write.new.self in
     let w = c.args.write in
     let r = c.make_ready.ensures in
-    let h = can_write s w.word w.lanes c.words.result c.floor.result c.in_ok-check_write.ensures c.words.ensures.value c.floor.ensures in
+    let h = c.in_ok-check_store_above.ensures.passed in
     let ok = c.write.ensures.value ∙ taken_later s t w r.after h.below in
     let joins = in_ok _ _ c.write.result ok c.write.ensures.after in
     record { coherent = write_kept s t u w r.after joins (model c.make_ready.new.self.tables) (model c.change.new.self) c.make_ready.new.self.coherent r.closed c.change.ensures }
@@ -24,7 +24,7 @@ returns-clause-after g c =
     let t = g.P.Port.state c.make_ready.new.self.below in
     let w = c.args.write in
     let r = c.make_ready.ensures in
-    let h = can_write s w.word w.lanes c.words.result c.floor.result c.in_ok-check_write.ensures c.words.ensures.value c.floor.ensures in
+    let h = c.in_ok-check_store_above.ensures.passed in
     let ok = c.write.ensures.value ∙ taken_later s t w r.after h.below in
     as_ok _ _ c.write.result ok (write_settles s t (g.P.Port.state c.write.new.self) w r.after (in_ok _ _ c.write.result ok c.write.ensures.after))
 
@@ -34,6 +34,6 @@ returns-clause-did g c =
     let t = g.P.Port.state c.make_ready.new.self.below in
     let w = c.args.write in
     let r = c.make_ready.ensures in
-    let h = can_write s w.word w.lanes c.words.result c.floor.result c.in_ok-check_write.ensures c.words.ensures.value c.floor.ensures in
+    let h = c.in_ok-check_store_above.ensures.passed in
     let ok = c.write.ensures.value ∙ taken_later s t w r.after h.below in
     as_ok _ _ c.write.result ok (record { tables = c.change.ensures ∙ ap (λ (m : Model). written m w) r.did.tables; below = chain_append r.did.below (then c.write.ensures.did done) })

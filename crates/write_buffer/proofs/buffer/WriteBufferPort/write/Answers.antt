@@ -1,7 +1,6 @@
 use Rattle.std.proofs.Common.{Some, None, rules}
 use Rattle.port.specs.Steps.{done, then}
 use Rattle.port.proofs.Settling.{settles_none}
-use Rattle.port.proofs.Checking.{can_write}
 use Rattle.write_buffer.specs.Queues.{queued}
 use Rattle.write_buffer.proofs.Queueing.{left_line}
 use Rattle.write_buffer.proofs.Answering.{takes_kept, takes_joined}
@@ -15,8 +14,7 @@ invariant_of-self g c =
     let ws = queued c.args.self.now.queue in
     let vs = queued c.push.new.self in
     let w = c.args.write in
-    let checked = can_write s w.word w.lanes c.words.result c.floor.result c.in_ok-check_write.ensures c.words.ensures.value c.floor.ensures in
-    let both = takes_joined s.facts (Some c.in-Some.oldest) w ws vs c.in-Some.ensures.value c.push.ensures.after c.args.self.now.taken checked.below in
+    let both = takes_joined s.facts (Some c.in-Some.oldest) w ws vs c.in-Some.ensures.value c.push.ensures.after c.args.self.now.taken c.in_ok-check_store_above.ensures.passed.below in
     record { taken = takes_kept s.facts t.facts vs (settles_facts _ t c.send.ensures.after) both.1 }
 
 pub returns-in-Some-clause-after : goal.returns-in-Some-clause-after
