@@ -3,11 +3,11 @@ use Rattle.std.proofs.Common.{◌≡◌, ℕ, ◌<◌, false, List, [], length, 
 use Rattle.std.proofs.lemmas.Bool.{cases_eq}
 use Rattle.std.proofs.lemmas.Bool.Decides.{nat_tests}
 use Rattle.port.specs.declared.Store.{Store}
-use Rattle.port.specs.Lanes.{joined}
-use Rattle.port.specs.Memory.{line_of, stored, outside}
+use Rattle.port.specs.Lanes.{merged}
+use Rattle.port.specs.Memory.{line_of, stored, outside, place_of}
 use Rattle.banks.specs.declared.line.Line.{Line}
 use Rattle.banks.specs.Sizes.{words_of_lines}
-use Rattle.banks.specs.Lines.{blank, line_at, place_of, memory_of, changed}
+use Rattle.banks.specs.Lines.{blank, line_at, memory_of, changed}
 use Rattle.banks.specs.Ram.{ram_state}
 
 -- what a changed record shows as before
@@ -30,8 +30,8 @@ module _ (ls : List Line) (w : Store) (fits : line_of w.word < length ls) (full 
       let at = get_or-set_same ls line new blank fits in
       let else = get_or-set_other ls line (line_of a) new blank in
       let low : place_of w.word < length (line_at ls line).words = omega arith in
-      let at' = get_or-set_same (line_at ls line).words (place_of w.word) (joined w.lanes ((memory_of ls).word w.word) w.value) 0 low in
-      let else' = get_or-set_other (line_at ls line).words (place_of w.word) (place_of a) (joined w.lanes ((memory_of ls).word w.word) w.value) 0 in
+      let at' = get_or-set_same (line_at ls line).words (place_of w.word) (merged w.lanes ((memory_of ls).word w.word) w.value) 0 low in
+      let else' = get_or-set_other (line_at ls line).words (place_of w.word) (place_of a) (merged w.lanes ((memory_of ls).word w.word) w.value) 0 in
       grind (arith, nat_tests)
 
   state_after : ram_state (set ls line new) ≡ outside w (ram_state ls)

@@ -1,8 +1,8 @@
 -- Line records, and what a write does to them.
-use Rattle.std.specs.Prelude.{ℕ, ◌%◌, false, cond, List, [], slice_index, slice_index_or, slice_set}
+use Rattle.std.specs.Prelude.{ℕ, false, cond, List, [], slice_index, slice_index_or, slice_set}
 use Rattle.port.specs.declared.Store.{Store}
-use Rattle.port.specs.Lanes.{joined}
-use Rattle.port.specs.Memory.{Memory, line_of}
+use Rattle.port.specs.Lanes.{merged}
+use Rattle.port.specs.Memory.{Memory, line_of, place_of}
 use Rattle.banks.specs.declared.line.Line.{Line}
 
 -- what a list shows past its end
@@ -11,9 +11,6 @@ blank = record { words = []; cacheable = false; protect = false; readable = [] }
 
 abbrev pub line_at : List Line → ℕ → Line
 line_at lines line = slice_index_or lines line blank
-
-abbrev pub place_of : ℕ → ℕ
-place_of word = word % 8
 
 -- The memory that the records hold.
 abbrev pub memory_of : List Line → Memory
@@ -24,11 +21,8 @@ memory_of lines = record {
 
 -- The record with the lanes of a write changed in its word.
 abbrev pub changed : Line → Store → Line
-changed line w = record {
-  words = slice_set line.words (place_of w.word) (joined w.lanes (slice_index line.words (place_of w.word)) w.value);
-  cacheable = line.cacheable;
-  protect = line.protect;
-  readable = line.readable;
+changed line w = record line {
+  words = slice_set line.words (place_of w.word) (merged w.lanes (slice_index line.words (place_of w.word)) w.value);
 }
 
 -- The records once a write has settled: one word of one record is changed, and none where the line is protected.

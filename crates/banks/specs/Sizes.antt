@@ -1,14 +1,18 @@
 -- How many words a bank or map of some lines has.
 use Rattle.std.specs.Prelude.{ℕ, ◌*◌, ◌/◌, ◌%◌, Bool, cond, ◌&&◌, Ok, Err, Result, ◌==◌, nat_le}
 use Rattle.fault.specs.declared.Fault.{Fault}
+use Rattle.port.specs.Memory.{most_words}
 use Rattle.fault.specs.declared.Refusal.TheVariants.{UnfitSize}
 
 abbrev pub unfit : Fault
 unfit = record { refusal = UnfitSize; place = 0; floor = 0 }
 
--- One line at least, and 1,048,576 at most.
+abbrev pub most_lines : ℕ
+most_lines = most_words / 8
+
+-- One line at least, and at most as many as a port may have.
 abbrev pub fit_lines : ℕ → Bool
-fit_lines lines = nat_le 1 lines && nat_le lines 1048576
+fit_lines lines = nat_le 1 lines && nat_le lines most_lines
 
 -- What a size question answers: the number of words, or a refusal.
 abbrev pub size_of_lines : ℕ → Result ℕ Fault

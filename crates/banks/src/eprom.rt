@@ -1,5 +1,7 @@
 //! A bank of EPROM on the caller's bytes.
-ghost use Rattle.std.specs.Prelude.{◌≡◌};
+ghost use Rattle.std.specs.Prelude.{◌≡◌, length};
+ghost use Rattle.banks.specs.Sizes.{lines_of_bytes};
+ghost use Rattle.banks.specs.Whole.{whole_lines};
 ghost use Rattle.banks.specs.Eprom.{eprom_state};
 
 use super::sizes::eprom_size;
@@ -77,4 +79,6 @@ impl<'a> Port for EpromBank<'a> {
     }
 
     fn flush(&mut self) {}
+
+    ghost whole = { λ b. whole_lines (lines_of_bytes (length b.bytes.now)) };
 }

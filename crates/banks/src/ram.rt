@@ -1,5 +1,6 @@
 //! A bank of RAM on the caller's line records.
-ghost use Rattle.std.specs.Prelude.{◌≡◌};
+ghost use Rattle.std.specs.Prelude.{◌≡◌, length};
+ghost use Rattle.banks.specs.Whole.{whole_lines};
 ghost use Rattle.banks.specs.Ram.{ram_state, RamDoes};
 
 use super::line::Line;
@@ -48,8 +49,8 @@ impl<'a> Port for RamBank<'a> {
 
     fn marks(&self, line: u32) -> Result<(bool, bool), Fault> {
         check_range(line, self.words() / 8, 0)?;
-        // A copy, here and below: a line lent from behind two references is not covered by the checker.
-        let line = self.lines[line as usize];
+        let lines = &*self.lines;
+        let line = &lines[line as usize];
         Ok((line.cacheable, line.protect))
     }
 
@@ -69,7 +70,8 @@ impl<'a> Port for RamBank<'a> {
 
     fn settled_read(&self, word: u32) -> Result<u16, Fault> {
         check_range(word, self.words(), 0)?;
-        let line = self.lines[(word / 8) as usize];
+        let lines = &*self.lines;
+        let line = &lines[(word / 8) as usize];
         let place = (word % 8) as usize;
         if !line.readable[place] {
             return Err(Fault {
@@ -95,4 +97,6 @@ impl<'a> Port for RamBank<'a> {
     }
 
     fn flush(&mut self) {}
+
+    ghost whole = { λ b. whole_lines (length b.lines.now) };
 }

@@ -2,7 +2,7 @@
 use Rattle.std.specs.Prelude.{◌≡◌, ℕ, ◌*◌, true, false, List, [], ◌∷◌, ◌++◌, Some, None, Ok, Option}
 use Rattle.std.specs.Option.{option_to_list as left}
 use Rattle.port.specs.declared.Store.{Store}
-use Rattle.port.specs.Lanes.{joined}
+use Rattle.port.specs.Lanes.{merged}
 use Rattle.port.specs.Memory.{State, posted, outside}
 use Rattle.port.specs.Meaning.{read_answer, settled_answer}
 use Rattle.port.specs.Steps.{Step, reads, writes}
@@ -109,8 +109,8 @@ pub record BenchCards : Type 0 where
   -- a fill from place 5, here of line 0, reads these words below
   pub fill_order : (content : ℕ → ℕ) → fill_calls content 5 ≡
       gets content 5 ∷ gets content 4 ∷ gets content 7 ∷ gets content 6 ∷ gets content 1 ∷ gets content 0 ∷ gets content 3 ∷ gets content 2 ∷ []
-  pub low_lane : joined 1 0x1234 0xabcd ≡ 0x12cd
-  pub high_lane : joined 2 0x1234 0xabcd ≡ 0xab34
+  pub low_lane : merged 1 0x1234 0xabcd ≡ 0x12cd
+  pub high_lane : merged 2 0x1234 0xabcd ≡ 0xab34
   -- four writes wait in a buffer, and the fifth sends the first below
   pub four_wait : (a b c d : Store) → queued_all [] (a ∷ b ∷ c ∷ d ∷ []) ≡ a ∷ b ∷ c ∷ d ∷ []
   pub none_sent : (a b c d : Store) → sent_all [] (a ∷ b ∷ c ∷ d ∷ []) ≡ []

@@ -1,18 +1,18 @@
 //! The board and its calls.
-ghost use Rattle.std.specs.Prelude.{◌≡◌, [], ◌∷◌, Err, ◌≢◌};
+ghost use Rattle.std.specs.Prelude.{◌≡◌, Err, ◌≢◌};
 ghost use Rattle.calls.specs.declared.call.Call.TheVariants.{Lock as Locks, LockedRead, LockedWrite, Unlock as Unlocks, Ask as Asks, MasterRead, MasterWrite, Give as Gives};
 ghost use Rattle.calls.specs.Calls.{cargo_of};
-ghost use Rattle.port.specs.Memory.{drained, posted, floor_above};
-ghost use Rattle.port.specs.Meaning.{marks_answer, waiting_answer, write_answer, ByAnswer};
+ghost use Rattle.port.specs.Memory.{drained, floor_above};
+ghost use Rattle.port.specs.Meaning.{marks_answer, waiting_answer};
 ghost use Rattle.port.specs.Steps.{Drains};
 ghost use Rattle.book.specs.declared.answer.Mode.TheVariants.{Free};
 ghost use Rattle.book.specs.Tables.{place_in};
-ghost use Rattle.book.specs.Calling.{as_done, as_word, Through, Called, Cycled};
+ghost use Rattle.book.specs.Calling.{as_done, as_word, Called, Cycled};
 
 use book::{Answer, Mode};
 use calls::{Call, Cargo};
 use fault::{Fault, Refusal};
-use port::{Port, Store, settle_all};
+use port::{Port, Store, settle_all, write_through};
 
 // Two tokens with calls of their own, as the users asked for. One token over a trait of its four calls would save five short bodies, for a
 // trait with four definitions and two impls of eight lines each.
@@ -42,17 +42,6 @@ fn place_of(call: Call) -> u32
         Cargo::Word(word) => word,
         Cargo::Store(write) => write.word,
     }
-}
-
-// A write that has settled, with all that waited before it, when the call returns.
-fn write_through<P: Port>(port: &mut P, write: Store) -> Result<(), Fault>
-    ensures value { result ≡ write_answer (P.state port.old) write }
-    ensures after { ByAnswer result (P.state port.new ≡ drained (posted (write ∷ []) (P.state port.old))) (port.new ≡ port.old) }
-    ensures did { Through P.Port write port.old port.new }
-{
-    port.write(write)?;
-    settle_all(port);
-    Ok(())
 }
 
 impl<P: Port> Board<P> {

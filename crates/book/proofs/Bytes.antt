@@ -1,7 +1,7 @@
 -- What a byte of a memory is, after a list of writes.
 use Rattle.std.proofs.Common.{◌≡◌, ℕ, ◌+◌, ◌*◌, ◌/◌, ◌%◌, ◌<◌, Bool, true, false, cond, not, ◌&&◌, eqb, List, [], ◌∷◌, ◌++◌, sym, refl, ap, ◌∙◌, arith, true-eqb}
 use Rattle.port.specs.declared.Store.{Store}
-use Rattle.port.specs.Lanes.{Lane, low, high, byte, covers, joined_byte, joined}
+use Rattle.port.specs.Lanes.{Lane, low, high, byte, covers, merged_byte, merged}
 use Rattle.port.specs.Memory.{Memory, line_of, stored, applied}
 use Rattle.book.specs.Runs.{Entry, entry_of, marked}
 use Rattle.book.specs.Promise.{writes_byte, Unwritten, Youngest, Comes, from_waiting, from_settled, from_first}
@@ -17,28 +17,28 @@ small : (b : Bool) (x y : ℕ) → cond b (byte low x) (byte low y) < 256
 small true x y = omega arith
 small false x y = omega arith
 
-byte_joined : (lane : Lane) (lanes old new : ℕ) → byte lane (joined lanes old new) ≡ cond (covers lanes lane) (byte lane new) (byte lane old)
-byte_joined low lanes old new = low_of (joined_byte high lanes old new) (joined_byte low lanes old new) (small (covers lanes low) new old)
-byte_joined high lanes old new = high_of (joined_byte high lanes old new) (joined_byte low lanes old new) (small (covers lanes low) new old)
+byte_merged : (lane : Lane) (lanes old new : ℕ) → byte lane (merged lanes old new) ≡ cond (covers lanes lane) (byte lane new) (byte lane old)
+byte_merged low lanes old new = low_of (merged_byte high lanes old new) (merged_byte low lanes old new) (small (covers lanes low) new old)
+byte_merged high lanes old new = high_of (merged_byte high lanes old new) (merged_byte low lanes old new) (small (covers lanes low) new old)
 
 -- One write, by bytes.
 byte_stored : (p : ℕ → Bool) (lane : Lane) (a : ℕ) (m : Memory) (w : Store)
     → byte lane ((stored p w m).word a) ≡ cond (writes_byte lane a (entry_of p w)) (byte lane w.value) (byte lane (m.word a))
 byte_stored p lane a m w = go (eqb a w.word) refl
   where
-    by_mark : (x : Bool) → byte lane (cond x (m.word a) (joined w.lanes (m.word a) w.value)) ≡ cond (not x && covers w.lanes lane) (byte lane w.value) (byte lane (m.word a))
+    by_mark : (x : Bool) → byte lane (cond x (m.word a) (merged w.lanes (m.word a) w.value)) ≡ cond (not x && covers w.lanes lane) (byte lane w.value) (byte lane (m.word a))
     by_mark true = refl
-    by_mark false = byte_joined lane w.lanes (m.word a) w.value
+    by_mark false = byte_merged lane w.lanes (m.word a) w.value
 
-    go : (t : Bool) → eqb a w.word ≡ t → byte lane (cond (eqb a w.word) (cond (p (line_of a)) (m.word a) (joined w.lanes (m.word a) w.value)) (m.word a))
+    go : (t : Bool) → eqb a w.word ≡ t → byte lane (cond (eqb a w.word) (cond (p (line_of a)) (m.word a) (merged w.lanes (m.word a) w.value)) (m.word a))
         ≡ cond (eqb a w.word && (not (p (line_of w.word)) && covers w.lanes lane)) (byte lane w.value) (byte lane (m.word a))
     go true e =
-        ap (λ (t : Bool). byte lane (cond t (cond (p (line_of a)) (m.word a) (joined w.lanes (m.word a) w.value)) (m.word a))) e
+        ap (λ (t : Bool). byte lane (cond t (cond (p (line_of a)) (m.word a) (merged w.lanes (m.word a) w.value)) (m.word a))) e
         ∙ by_mark (p (line_of a))
         ∙ ap (λ (x : ℕ). cond (not (p (line_of x)) && covers w.lanes lane) (byte lane w.value) (byte lane (m.word a))) (true-eqb a w.word (sym e))
         ∙ ap (λ (t : Bool). cond (t && (not (p (line_of w.word)) && covers w.lanes lane)) (byte lane w.value) (byte lane (m.word a))) (sym e)
     go false e =
-        ap (λ (t : Bool). byte lane (cond t (cond (p (line_of a)) (m.word a) (joined w.lanes (m.word a) w.value)) (m.word a))) e
+        ap (λ (t : Bool). byte lane (cond t (cond (p (line_of a)) (m.word a) (merged w.lanes (m.word a) w.value)) (m.word a))) e
         ∙ ap (λ (t : Bool). cond (t && (not (p (line_of w.word)) && covers w.lanes lane)) (byte lane w.value) (byte lane (m.word a))) (sym e)
 
 -- After a list of writes a byte is the youngest's, or what it was.

@@ -24,11 +24,11 @@ pub record Settled (s t : State) : Type 0 where
 pub counted : (s t : State) → Settles s t → Settled s t
 counted s t a = record {
   count = length a.gone;
-  within = omega (arith, ap length a.line ∙ length-append a.gone a.rest);
+  within = omega (arith, ap length a.split ∙ length-append a.gone a.rest);
   left = a.after
       ∙ ap₂ (λ (gone rest : List Store). settling gone rest s)
-      (sym (ap (λ (l : List Store). take (length a.gone) l) a.line ∙ take_at a.gone a.rest (length a.gone) refl))
-      (sym (ap (λ (l : List Store). drop (length a.gone) l) a.line ∙ drop_at a.gone a.rest (length a.gone) refl));
+      (sym (ap (λ (l : List Store). take (length a.gone) l) a.split ∙ take_at a.gone a.rest (length a.gone) refl))
+      (sym (ap (λ (l : List Store). drop (length a.gone) l) a.split ∙ drop_at a.gone a.rest (length a.gone) refl));
 }
 
 -- A call that is taken settles a number that its kind admits.

@@ -3,7 +3,7 @@ use Rattle.std.proofs.Common.{◌≡◌, ℕ, ◌⊎◌, List, [], ◌∷◌, �
 use lib.Seq.{drop-length, take-length, drop-nil, take-nil}
 use Rattle.fault.specs.declared.Refusal.{Refusal}
 use Rattle.calls.specs.declared.call.Call.{Call}
-use Rattle.calls.specs.declared.call.Call.TheVariants.{Read, Write as Post, Unposted, Advance, Lock, LockedRead, LockedWrite, Unlock, Ask, MasterRead, MasterWrite, Give, Snoop, Flush}
+use Rattle.calls.specs.declared.call.Call.TheVariants.{Write as Post, Unposted, Lock, LockedWrite, Unlock, Ask, MasterWrite, Give}
 use Rattle.calls.specs.Calls.{cargo_of}
 use Rattle.port.specs.declared.Store.{Store}
 use Rattle.port.specs.Memory.{applied}
@@ -11,7 +11,7 @@ use Rattle.port.proofs.Settling.{applied-append}
 use Rattle.book.specs.declared.answer.Mode.{Mode}
 use Rattle.book.specs.declared.answer.Mode.TheVariants.{Locked}
 use Rattle.book.specs.Tables.{unless_locked, or_else, fits, refusal, if_taken, posts, masters_writes, locks_writes, goes_to, settles_by, Rule, none, all}
-use Rattle.book.specs.Book.{Book, refused, joins, line, step, rule, Admits, Allowed, answer}
+use Rattle.book.specs.Book.{Book, refused, joins, waiting_line, step, rule, Admits, Allowed, answer}
 use Rattle.fault.specs.declared.Fault.{Fault}
 use Rattle.book.specs.declared.answer.Answer.{Answer}
 use Rattle.book.specs.Runs.{Moment, after, Follows, if_ok, locked_writes, Held}
@@ -21,22 +21,16 @@ use Rattle.book.proofs.Records.{took_locks}
 emptied : (m : Mode) (n : ℕ) (c : Call) (o : Option Refusal) → refusal m n c ≡ o → if_taken o (goes_to m c) m ≡ Locked
     → (if_taken o (settles_by c) none ≡ all) ⊎ ((m ≡ Locked) × (if_taken o (posts c) [] ≡ []))
 emptied m n c (Some x) e h = inr (h, refl)
-emptied m n (Read w) None e h = inr (h, refl)
 emptied m n (Post s) None e h =
     let f = ap (λ (x : Mode). or_else (unless_locked x) (fits n (cargo_of (Post s)))) (sym h) ∙ e in
     let z : ◌≡◌ {A = ℕ} 0 1 = cc in absurd (omega arith)
 emptied m n (Unposted s) None e h = inl refl
-emptied m n Advance None e h = inr (h, refl)
 emptied m n Lock None e h = inl refl
-emptied m n (LockedRead w) None e h = inr (h, refl)
 emptied m n (LockedWrite s) None e h = inl refl
-emptied m n Unlock None e h = let z : ◌≡◌ {A = ℕ} 0 1 = cc in absurd (omega arith)
-emptied m n Ask None e h = let z : ◌≡◌ {A = ℕ} 0 1 = cc in absurd (omega arith)
-emptied m n (MasterRead w) None e h = inr (h, refl)
-emptied m n (MasterWrite s) None e h = inr (h, refl)
-emptied m n Give None e h = let z : ◌≡◌ {A = ℕ} 0 1 = cc in absurd (omega arith)
-emptied m n (Snoop w) None e h = inr (h, refl)
-emptied m n Flush None e h = inr (h, refl)
+emptied m n Unlock None e h = absurd (cc)
+emptied m n Ask None e h = absurd (cc)
+emptied m n Give None e h = absurd (cc)
+emptied m n c None e h = inr (h, refl)
 
 abbrev pub Calm : Book → Type 0
 Calm b = b.mode ≡ Locked → b.state.waiting ≡ []
@@ -44,10 +38,10 @@ Calm b = b.mode ≡ Locked → b.state.waiting ≡ []
 pub calm_step : (b : Book) (c : Call) (k : ℕ) → Allowed b c k → Calm b → Calm (step b c k)
 calm_step b c k h calm e = go (emptied b.mode b.state.facts.words c (refused b c) refl e)
   where
-    go : (rule b c ≡ all) ⊎ ((b.mode ≡ Locked) × (joins b c ≡ [])) → drop k (line b c) ≡ []
+    go : (rule b c ≡ all) ⊎ ((b.mode ≡ Locked) × (joins b c ≡ [])) → drop k (waiting_line b c) ≡ []
     go (inl p) =
-        let q : k ≡ length (line b c) = subst (λ (r : Rule). Admits r (length (line b c)) k) p h in
-        ap (λ (n : ℕ). drop n (line b c)) q ∙ drop-length (line b c)
+        let q : k ≡ length (waiting_line b c) = subst (λ (r : Rule). Admits r (length (waiting_line b c)) k) p h in
+        ap (λ (n : ℕ). drop n (waiting_line b c)) q ∙ drop-length (waiting_line b c)
     go (inr p) = ap₂ (λ (xs ys : List Store). drop k (xs ++ ys)) (calm p.0) p.1 ∙ drop-nil k
 
 pub calm_run : (b : Book) (run : List Moment) → Follows b run → Calm b → Calm (after b run)
@@ -62,20 +56,11 @@ pub record Own (o : Option Refusal) (c : Call) : Type 0 where
 
 own : (n : ℕ) (c : Call) (o : Option Refusal) → refusal Locked n c ≡ o → Own o c
 own n c (Some x) e = record { no_master = refl; own_writes = refl; at_once = inr refl }
-own n (Read w) None e = record { no_master = refl; own_writes = refl; at_once = inr refl }
-own n (Post s) None e = let z : ◌≡◌ {A = ℕ} 0 1 = cc in absurd (omega arith)
-own n (Unposted s) None e = let z : ◌≡◌ {A = ℕ} 0 1 = cc in absurd (omega arith)
-own n Advance None e = record { no_master = refl; own_writes = refl; at_once = inr refl }
-own n Lock None e = record { no_master = refl; own_writes = refl; at_once = inr refl }
-own n (LockedRead w) None e = record { no_master = refl; own_writes = refl; at_once = inr refl }
+own n (Post s) None e = absurd (cc)
+own n (Unposted s) None e = absurd (cc)
+own n (MasterWrite s) None e = absurd (cc)
 own n (LockedWrite s) None e = record { no_master = refl; own_writes = refl; at_once = inl refl }
-own n Unlock None e = record { no_master = refl; own_writes = refl; at_once = inr refl }
-own n Ask None e = record { no_master = refl; own_writes = refl; at_once = inr refl }
-own n (MasterRead w) None e = record { no_master = refl; own_writes = refl; at_once = inr refl }
-own n (MasterWrite s) None e = let z : ◌≡◌ {A = ℕ} 0 1 = cc in absurd (omega arith)
-own n Give None e = record { no_master = refl; own_writes = refl; at_once = inr refl }
-own n (Snoop w) None e = record { no_master = refl; own_writes = refl; at_once = inr refl }
-own n Flush None e = record { no_master = refl; own_writes = refl; at_once = inr refl }
+own n c None e = record { no_master = refl; own_writes = refl; at_once = inr refl }
 
 -- All of a line that settles, or is empty.
 whole : (r : Rule) (ws : List Store) (k : ℕ) → Admits r (length ws) k → (r ≡ all) ⊎ (ws ≡ []) → (take k ws ≡ ws) × (drop k ws ≡ [])
@@ -90,8 +75,8 @@ locked_step : (b : Book) (c : Call) (k : ℕ) → b.mode ≡ Locked → b.state.
 locked_step b c k e f h =
     let p = b.state.protected in
     let o = own b.state.facts.words c (refused b c) (ap (λ (m : Mode). refusal m b.state.facts.words c) (sym e)) in
-    let l : line b c ≡ joins b c = ap (λ (x : List Store). x ++ joins b c) f in
-    let w = whole (rule b c) (line b c) k h (elim o.at_once [ inl x ↦ inl x | inr x ↦ inr (l ∙ x) ]) in (
+    let l : waiting_line b c ≡ joins b c = ap (λ (x : List Store). x ++ joins b c) f in
+    let w = whole (rule b c) (waiting_line b c) k h (elim o.at_once [ inl x ↦ inl x | inr x ↦ inr (l ∙ x) ]) in (
       ap₂ (λ (xs ys : List Store). applied p xs (applied p ys b.state.settled)) (w.0 ∙ l ∙ o.own_writes ∙ sym (took_locks b c)) o.no_master,
       w.1,
     )

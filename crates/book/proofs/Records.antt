@@ -1,18 +1,18 @@
 -- The record of a run says what the book does.
-use Rattle.std.proofs.Common.{◌≡◌, ℕ, zero, suc, ◌+◌, ◌≤◌, Bool, ◌⊎◌, List, [], ◌∷◌, ◌++◌, length, get_or, take, drop, Some, None, Ok, Err, Option, Result, sym, refl, ap, ◌∙◌, subst, ap₂, inl, inr, append_assoc, append-nil, arith, length-append, take-append-drop, length-take, take_at, drop_at}
+use Rattle.std.proofs.Common.{◌≡◌, ℕ, ◌+◌, ◌≤◌, Bool, ◌⊎◌, List, [], ◌∷◌, ◌++◌, length, take, drop, Some, None, Ok, Err, Option, Result, sym, refl, ap, ◌∙◌, subst, ap₂, inl, inr, append_assoc, arith, length-append, take-append-drop, length-take}
 use Rattle.std.proofs.lemmas.List.{map-append, take-map, drop-map, length-map}
 use Rattle.fault.specs.declared.Fault.{Fault}
 use Rattle.fault.specs.declared.Refusal.{Refusal}
 use Rattle.calls.specs.declared.call.Call.{Call}
-use Rattle.calls.specs.declared.call.Call.TheVariants.{Read, Write as Post, Unposted, Advance, Lock, LockedRead, LockedWrite, Unlock, Ask, MasterRead, MasterWrite, Give, Snoop, Flush}
+use Rattle.calls.specs.declared.call.Call.TheVariants.{Read, LockedRead, MasterRead}
 use Rattle.port.specs.declared.Store.{Store}
 use Rattle.port.specs.Memory.{Memory, State, applied}
 use Rattle.port.proofs.Settling.{applied-append}
 use Rattle.book.specs.declared.answer.Answer.{Answer}
 use Rattle.book.specs.declared.answer.Answer.TheVariants.{Done}
 use Rattle.book.specs.Tables.{if_taken, posts, masters_writes, locks_writes, Rule, none, some, one_or_more, all}
-use Rattle.book.specs.Book.{Book, refused, joins, masters, line, step, rule, Admits, says, unless, told, answer}
-use Rattle.book.specs.Runs.{Moment, moment, calls_of, answers_of, after, Follows, if_ok, Entry, entry_of, marked, Ledger, blank, joined, passed, entered, ledger, total}
+use Rattle.book.specs.Book.{Book, refused, joins, masters, waiting_line, step, rule, Admits, says, unless, told, answer}
+use Rattle.book.specs.Runs.{Moment, moment, after, Follows, if_ok, Entry, entry_of, marked, Ledger, joined, entered, ledger, total}
 
 -- ACCEPTED WRITES, read off the answers
 
@@ -28,19 +28,9 @@ pub record Writeless (c : Call) : Type 0 where
 
 writes_or_not : (s : State) (c : Call) → (says s c ≡ Ok Done) ⊎ Writeless c
 writes_or_not s (Read w) = inr (record { no_post = refl; no_master = refl; no_lock = refl })
-writes_or_not s (Post x) = inl refl
-writes_or_not s (Unposted x) = inl refl
-writes_or_not s Advance = inl refl
-writes_or_not s Lock = inl refl
 writes_or_not s (LockedRead w) = inr (record { no_post = refl; no_master = refl; no_lock = refl })
-writes_or_not s (LockedWrite x) = inl refl
-writes_or_not s Unlock = inl refl
-writes_or_not s Ask = inl refl
 writes_or_not s (MasterRead w) = inr (record { no_post = refl; no_master = refl; no_lock = refl })
-writes_or_not s (MasterWrite x) = inl refl
-writes_or_not s Give = inl refl
-writes_or_not s (Snoop w) = inl refl
-writes_or_not s Flush = inl refl
+writes_or_not s c = inl refl
 
 none_taken : {X : Type 0} (o : Option Refusal) → if_taken {X = List X} o [] [] ≡ []
 none_taken None = refl
@@ -76,25 +66,25 @@ pub record Tells (m : Memory) (p : ℕ → Bool) (b : Book) (l : Ledger) : Type 
   pub memory : b.state.settled ≡ applied p writes m
 
 joined_is : (p : ℕ → Bool) (b : Book) (l : Ledger) (c : Call) (k : ℕ) → l.waiting ≡ marked p b.state.waiting
-    → l.waiting ++ joined p (moment c (answer b c) k) ≡ marked p (line b c)
+    → l.waiting ++ joined p (moment c (answer b c) k) ≡ marked p (waiting_line b c)
 joined_is p b l c k e =
     ap₂ (λ (xs : List Entry) (ys : List Store). xs ++ marked p ys) e (took_posts b c) ∙ sym (map-append (entry_of p) b.state.waiting (joins b c))
 
 tells_step : (m : Memory) (p : ℕ → Bool) (b : Book) (l : Ledger) (c : Call) (k : ℕ) → Tells m p b l → Tells m p (step b c k) (entered p l (moment c (answer b c) k))
 tells_step m p b l c k h =
     let j = joined_is p b l c k h.waiting in
-    let new = masters b c ++ take k (line b c) in
+    let new = masters b c ++ take k (waiting_line b c) in
     record {
       marks = h.marks;
-      waiting = ap (λ (x : List Entry). drop k x) j ∙ drop-map (entry_of p) k (line b c);
+      waiting = ap (λ (x : List Entry). drop k x) j ∙ drop-map (entry_of p) k (waiting_line b c);
       writes = h.writes ++ new;
       settled = ap₂ (λ (xs ys : List Entry). xs ++ ys) h.settled
-          (ap₂ (λ (xs : List Store) (ys : List Entry). marked p xs ++ ys) (took_masters b c) (ap (λ (x : List Entry). take k x) j ∙ take-map (entry_of p) k (line b c))
-          ∙ sym (map-append (entry_of p) (masters b c) (take k (line b c))))
+          (ap₂ (λ (xs : List Store) (ys : List Entry). marked p xs ++ ys) (took_masters b c) (ap (λ (x : List Entry). take k x) j ∙ take-map (entry_of p) k (waiting_line b c))
+          ∙ sym (map-append (entry_of p) (masters b c) (take k (waiting_line b c))))
           ∙ sym (map-append (entry_of p) h.writes new);
-      memory = ap (λ (q : ℕ → Bool). applied q (take k (line b c)) (applied q (masters b c) b.state.settled)) h.marks
-          ∙ ap (λ (x : Memory). applied p (take k (line b c)) (applied p (masters b c) x)) h.memory
-          ∙ sym (applied-append p (masters b c) (take k (line b c)) (applied p h.writes m))
+      memory = ap (λ (q : ℕ → Bool). applied q (take k (waiting_line b c)) (applied q (masters b c) b.state.settled)) h.marks
+          ∙ ap (λ (x : Memory). applied p (take k (waiting_line b c)) (applied p (masters b c) x)) h.memory
+          ∙ sym (applied-append p (masters b c) (take k (waiting_line b c)) (applied p h.writes m))
           ∙ sym (applied-append p h.writes new m);
     }
 
@@ -127,9 +117,9 @@ pub many : (m : Memory) (p : ℕ → Bool) (b : Book) (l : Ledger) (run : List M
 many m p b l [] f h = omega arith
 many m p b l (x ∷ run) f h =
     let next = subst (λ (r : Result Answer Fault). Tells m p (step b x.call x.count) (entered p l (moment x.call r x.count))) (sym f.1) (tells_step m p b l x.call x.count h) in
-    let size : length (l.waiting ++ joined p x) ≡ length (line b x.call) =
-        ap length (ap (λ (r : Result Answer Fault). l.waiting ++ joined p (moment x.call r x.count)) f.1 ∙ joined_is p b l x.call x.count h.waiting) ∙ length-map (line b x.call) (entry_of p) in
-    let le : x.count ≤ length (line b x.call) = within (rule b x.call) (length (line b x.call)) x.count f.0 in
+    let size : length (l.waiting ++ joined p x) ≡ length (waiting_line b x.call) =
+    ap length (ap (λ (r : Result Answer Fault). l.waiting ++ joined p (moment x.call r x.count)) f.1 ∙ joined_is p b l x.call x.count h.waiting) ∙ length-map (waiting_line b x.call) (entry_of p) in
+    let le : x.count ≤ length (waiting_line b x.call) = within (rule b x.call) (length (waiting_line b x.call)) x.count f.0 in
     let front : length (take x.count (l.waiting ++ joined p x)) ≡ x.count = length-take x.count (l.waiting ++ joined p x) ∙ omega arith in
     let rest = many m p (step b x.call x.count) (entered p l x) run f.2 next in
     let own = length-append l.own (take x.count (l.waiting ++ joined p x)) in omega (arith, rest, own, front)

@@ -1,11 +1,11 @@
 -- A run of a board keeps the promise.
-use Rattle.std.proofs.Common.{◌≡◌, ℕ, ◌+◌, ◌<◌, ◌≤◌, Bool, true, false, cond, ◌⊎◌, List, [], ◌∷◌, ◌++◌, length, get_or, take, drop, Some, None, Ok, Err, Option, Result, sym, refl, ap, ◌∙◌, subst, ap₂, subst₂, inl, inr, arith, take_all}
+use Rattle.std.proofs.Common.{◌≡◌, ℕ, ◌+◌, ◌<◌, ◌≤◌, Bool, true, false, cond, ◌⊎◌, List, [], ◌∷◌, ◌++◌, length, get_or, take, Some, None, Ok, Err, Option, Result, sym, refl, ap, ◌∙◌, subst, ap₂, subst₂, inl, inr, arith, take_all}
 use Rattle.std.proofs.lemmas.List.{take_more, map-append}
 use Rattle.fault.specs.declared.Fault.{Fault}
 use Rattle.fault.specs.declared.Refusal.{Refusal}
 use Rattle.fault.specs.declared.Refusal.TheVariants.{Unreadable}
 use Rattle.calls.specs.declared.call.Call.{Call}
-use Rattle.calls.specs.declared.call.Call.TheVariants.{Read, Write as Post, Unposted, Advance, Lock, LockedRead, LockedWrite, Unlock, Ask, MasterRead, MasterWrite, Give, Snoop, Flush}
+use Rattle.calls.specs.declared.call.Call.TheVariants.{Read, LockedRead, MasterRead}
 use Rattle.port.specs.declared.Store.{Store}
 use Rattle.port.specs.Lanes.{Lane, byte}
 use Rattle.port.specs.declared.Port.{Ghosts}
@@ -16,10 +16,10 @@ use Rattle.book.specs.declared.answer.Mode.TheVariants.{Free, Locked}
 use Rattle.book.specs.declared.answer.Answer.{Answer}
 use Rattle.book.specs.declared.answer.Answer.TheVariants.{Done, Word}
 use Rattle.book.specs.Tables.{if_locked, in_range, if_taken, posts, masters_writes, goes_to, settles_by, Rule, none, some, one_or_more, all}
-use Rattle.book.specs.Book.{Book, book_of, first, refused, joins, masters, mastered, line, settle, step, rule, Admits, Allowed, says, unless, told, answer}
+use Rattle.book.specs.Book.{Book, book_of, first, refused, joins, masters, mastered, waiting_line, settle, step, rule, Admits, Allowed, says, unless, told, answer}
 use Rattle.book.specs.Calling.{Called}
 use Rattle.book.specs.Runs.{Moment, moment, calls_of, answers_of, after, Follows, Entry, ledger, blank, locked_writes}
-use Rattle.book.specs.Promise.{Comes, ReadsAreNewest, LockedMemoryIsTheLocks, EachWriteSettlesOnce, CallsMade, none_made, one_more, NeverAnOldDigit, BothKeep, TheBookIsSound}
+use Rattle.book.specs.Promise.{Comes, ReadsAreNewest, LockedMemoryIsTheLocks, CallsMade, none_made, one_more, NeverAnOldDigit, BothKeep, TheBookIsSound}
 use Rattle.book.proofs.Counts.{settle_none}
 use Rattle.book.proofs.Bytes.{comes, one_source}
 use Rattle.book.proofs.Records.{Tells, tells_run, once, many, front, back}
@@ -177,7 +177,7 @@ some_count all n = (n, refl)
 some_run : (b : Book) (cs : List Call) → (ms : List Moment) × (calls_of ms ≡ cs) × Follows b ms
 some_run b [] = ([], refl, tt)
 some_run b (c ∷ cs) =
-    let k = some_count (rule b c) (length (line b c)) in
+    let k = some_count (rule b c) (length (waiting_line b c)) in
     let r = some_run (step b c k.0) cs in
     (moment c (answer b c) k.0 ∷ r.0, ap {B = List Call} (λ xs. c ∷ xs) r.1, (k.1, refl, r.2))
 
@@ -186,7 +186,7 @@ idle : (b : Book) (c : Call) (k : ℕ) (o : Option Refusal) → refused b c ≡ 
     → if_taken o (posts c) [] ≡ [] → if_taken o (masters_writes c) [] ≡ [] → if_taken o (settles_by c) none ≡ none → Allowed b c k → step b c k ≡ b
 idle b c k o e g p w r h =
     let s = b.state in
-    let zero-settle : k ≡ 0 = subst (λ (x : Rule). Admits x (length (line b c)) k) (ap (λ (x : Option Refusal). if_taken x (settles_by c) none) e ∙ r) h in
+    let zero-settle : k ≡ 0 = subst (λ (x : Rule). Admits x (length (waiting_line b c)) k) (ap (λ (x : Option Refusal). if_taken x (settles_by c) none) e ∙ r) h in
     ap (λ (x : Mode). book_of x (settle k (posted (joins b c) (mastered (masters b c) s)))) (ap (λ (x : Option Refusal). if_taken x (goes_to b.mode c) b.mode) e ∙ g)
     ∙ ap (λ (x : List Store). book_of b.mode (settle k (posted x (mastered (masters b c) s)))) (ap (λ (x : Option Refusal). if_taken x (posts c) []) e ∙ p)
     ∙ ap (λ (x : List Store). book_of b.mode (settle k (posted [] (mastered x s)))) (ap (λ (x : Option Refusal). if_taken x (masters_writes c) []) e ∙ w)
@@ -205,19 +205,9 @@ unreadable_only floor w v false fault e = cc
 
 taken_refused : (b : Book) (c : Call) (k : ℕ) (fault : Fault) → refused b c ≡ None → Allowed b c k → told b.state.facts.floor c (says b.state c) ≡ Err fault → Unchanged b c k fault
 taken_refused b (Read w) k fault o h e = inr (unreadable_only b.state.facts.floor w ((seen b.state).word w) ((seen b.state).readable w) fault e, (w, refl))
-taken_refused b (Post s) k fault o h e = never b (Post s) k fault e
-taken_refused b (Unposted s) k fault o h e = never b (Unposted s) k fault e
-taken_refused b Advance k fault o h e = never b Advance k fault e
-taken_refused b Lock k fault o h e = never b Lock k fault e
 taken_refused b (LockedRead w) k fault o h e = inl (idle b (LockedRead w) k None o refl refl refl refl h)
-taken_refused b (LockedWrite s) k fault o h e = never b (LockedWrite s) k fault e
-taken_refused b Unlock k fault o h e = never b Unlock k fault e
-taken_refused b Ask k fault o h e = never b Ask k fault e
 taken_refused b (MasterRead w) k fault o h e = inl (idle b (MasterRead w) k None o refl refl refl refl h)
-taken_refused b (MasterWrite s) k fault o h e = never b (MasterWrite s) k fault e
-taken_refused b Give k fault o h e = never b Give k fault e
-taken_refused b (Snoop w) k fault o h e = never b (Snoop w) k fault e
-taken_refused b Flush k fault o h e = never b Flush k fault e
+taken_refused b c k fault o h e = never b c k fault e
 
 refusals_change_nothing : (b : Book) (c : Call) (k : ℕ) (fault : Fault) → Allowed b c k → answer b c ≡ Err fault → Unchanged b c k fault
 refusals_change_nothing b c k fault h e = go (refused b c) refl

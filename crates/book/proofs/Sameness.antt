@@ -3,9 +3,9 @@ use Rattle.std.proofs.Common.{◌≡◌, ℕ, ◌<◌, Bool, true, false, cond, 
 use Rattle.fault.specs.declared.Refusal.{Refusal}
 use Rattle.fault.specs.declared.Refusal.TheVariants.{PastEnd, Unreadable}
 use Rattle.calls.specs.declared.call.Call.{Call}
-use Rattle.calls.specs.declared.call.Call.TheVariants.{Read, Write as Post, Unposted, Advance, Lock, LockedRead, LockedWrite, Unlock, Ask, MasterRead, MasterWrite, Give, Snoop, Flush}
+use Rattle.calls.specs.declared.call.Call.TheVariants.{Read, LockedRead, MasterRead}
 use Rattle.port.specs.declared.Store.{Store}
-use Rattle.port.specs.Lanes.{joined}
+use Rattle.port.specs.Lanes.{merged}
 use Rattle.port.specs.Memory.{Memory, State, line_of, stored, applied, seen}
 use Rattle.port.proofs.Settling.{applied-append, applied_readable}
 use Rattle.book.specs.declared.answer.Mode.{Mode}
@@ -13,7 +13,7 @@ use Rattle.book.specs.declared.answer.Mode.TheVariants.{Free, Locked, Granted}
 use Rattle.book.specs.declared.answer.Answer.{Answer}
 use Rattle.book.specs.declared.answer.Answer.TheVariants.{Word}
 use Rattle.book.specs.Tables.{stop, in_range, or_else, refusal, if_taken, if_locked, posts, masters_writes, goes_to}
-use Rattle.book.specs.Book.{Book, first, refused, joins, masters, line, step, Allowed, reading, says, unless, told, answer}
+use Rattle.book.specs.Book.{Book, first, refused, joins, masters, waiting_line, step, Allowed, reading, says, unless, told, answer}
 use Rattle.fault.specs.declared.Fault.{Fault}
 use Rattle.book.specs.Runs.{Moment, calls_of, Follows, if_ok, Quiet, Turned, heard, all_heard}
 use Rattle.book.specs.Promise.{Alike}
@@ -34,15 +34,15 @@ applied_local : (p q : ℕ → Bool) (a : ℕ) (ws : List Store) (m n : Memory) 
 applied_local p q a [] m n e h = h
 applied_local p q a (w ∷ ws) m n e h =
     applied_local p q a ws (stored p w m) (stored q w n) e
-    (ap₂ (λ (x : Bool) (v : ℕ). cond (eqb a w.word) (cond x v (joined w.lanes v w.value)) v) e h)
+    (ap₂ (λ (x : Bool) (v : ℕ). cond (eqb a w.word) (cond x v (merged w.lanes v w.value)) v) e h)
 
 -- What is seen after a call does not depend on what settled.
 seen_step : (b : Book) (c : Call) (k : ℕ) → masters b c ≡ [] → seen (step b c k).state ≡ applied b.state.protected (joins b c) (seen b.state)
 seen_step b c k e =
     let p = b.state.protected in
-    ap (λ (ms : List Store). applied p (drop k (line b c)) (applied p (take k (line b c)) (applied p ms b.state.settled))) e
-    ∙ sym (applied-append p (take k (line b c)) (drop k (line b c)) b.state.settled)
-    ∙ ap (λ (ws : List Store). applied p ws b.state.settled) (take-append-drop k (line b c))
+    ap (λ (ms : List Store). applied p (drop k (waiting_line b c)) (applied p (take k (waiting_line b c)) (applied p ms b.state.settled))) e
+    ∙ sym (applied-append p (take k (waiting_line b c)) (drop k (waiting_line b c)) b.state.settled)
+    ∙ ap (λ (ws : List Store). applied p ws b.state.settled) (take-append-drop k (waiting_line b c))
     ∙ applied-append p b.state.waiting (joins b c) b.state.settled
 
 refused_alike : (b d : Book) (c : Call) → Like b d → refused b c ≡ refused d c
@@ -111,10 +111,6 @@ says_alike : (b d : Book) → Like b d → (c : Call) → refused b c ≡ None �
 says_alike b d h (Read w) e =
     let lt = in_range_lem b.state.facts.words w (both_none (stop b.mode (Read w)) (in_range b.state.facts.words w) e).1 in
     ap (λ (x : Result Answer Refusal). heard (Read w) (told 0 (Read w) x)) (reading_alike (seen b.state) (seen d.state) w (h.readable w lt) (h.content w lt))
-says_alike b d h (Post s) e = refl
-says_alike b d h (Unposted s) e = refl
-says_alike b d h Advance e = refl
-says_alike b d h Lock e = refl
 says_alike b d h (LockedRead w) e =
     let n = both_none (if_locked b.mode) (in_range b.state.facts.words w) e in
     let lt = in_range_lem b.state.facts.words w n.1 in
@@ -123,9 +119,6 @@ says_alike b d h (LockedRead w) e =
     (ap (λ (m : Memory). reading m w) (settled_seen b.state (h.calm₁ locked))
     ∙ reading_alike (seen b.state) (seen d.state) w (h.readable w lt) (h.content w lt)
     ∙ sym (ap (λ (m : Memory). reading m w) (settled_seen d.state (h.calm₂ (sym h.modes ∙ locked)))))
-says_alike b d h (LockedWrite s) e = refl
-says_alike b d h Unlock e = refl
-says_alike b d h Ask e = refl
 says_alike b d h (MasterRead w) e =
     let lt = in_range_lem b.state.facts.words w (both_none (stop b.mode (MasterRead w)) (in_range b.state.facts.words w) e).1 in
     let r : b.state.settled.readable w ≡ d.state.settled.readable w =
@@ -134,10 +127,7 @@ says_alike b d h (MasterRead w) e =
     ∙ ap (λ (r : ℕ → Bool). r w) (applied_readable d.state.protected d.state.waiting d.state.settled) in
     unheard 0 w (b.state.settled.word w) (d.state.settled.word w) (b.state.settled.readable w)
     ∙ ap (λ (x : Bool). heard (MasterRead w) (told 0 (MasterRead w) (cond x (Ok (Word (d.state.settled.word w))) (Err Unreadable)))) r
-says_alike b d h (MasterWrite s) e = refl
-says_alike b d h Give e = refl
-says_alike b d h (Snoop w) e = refl
-says_alike b d h Flush e = refl
+says_alike b d h c e = refl
 
 answer_alike : (b d : Book) → Like b d → (c : Call) → heard c (answer b c) ≡ heard c (answer d c)
 answer_alike b d h c =

@@ -13,7 +13,7 @@ use Rattle.port.specs.declared.Store.{Store}
 use Rattle.port.specs.declared.Port.{Ghosts}
 use Rattle.port.specs.Memory.{State, seen, posted, drained, outside}
 use Rattle.port.specs.Meaning.{laned, unreadable, past_end, bad_lanes, read_answer, write_answer, snoop_answer, Settles, Advances, ByAnswer, Kept}
-use Rattle.port.specs.Steps.{reads, writes, advances, outsides, snoops, flushes, done, then, Drains}
+use Rattle.port.specs.Steps.{reads, writes, advances, outsides, snoops, flushes, done, then, Drains, Through}
 use Rattle.port.proofs.Settling.{posted_none}
 use Rattle.book.specs.declared.answer.Mode.{Mode}
 use Rattle.book.specs.declared.answer.Mode.TheVariants.{Locked}
@@ -21,7 +21,7 @@ use Rattle.book.specs.declared.answer.Answer.{Answer}
 use Rattle.book.specs.declared.answer.Answer.TheVariants.{Done, Word}
 use Rattle.book.specs.Tables.{stop, fits, in_range, or_else, refusal, place_in, fault_of, if_taken, posts, masters_writes, goes_to, none, all, settles_by}
 use Rattle.book.specs.Book.{Book, book_of, settle, mastered, Admits, says, unless, told}
-use Rattle.book.specs.Calling.{as_done, as_word, Through, Makes, Reaches, Called}
+use Rattle.book.specs.Calling.{as_done, as_word, Makes, Reaches, Called}
 use Rattle.book.proofs.Counts.{settle_none, settle_all, counted, Landed, advanced}
 
 -- The book's step and rule, at a refusal that is still to be told.
@@ -196,17 +196,19 @@ landed_all c s t e h =
 
 pub unposted_called : {P : Type 0} (G : Ghosts P) (m : Mode) (p : P) (s : Store) (r : Result (Unit {0}) Fault) (x : Result Answer Fault) (q : P)
     → stop m (Unposted s) ≡ None → r ≡ write_answer (G.state p) s → x ≡ as_done r
-    → ByAnswer r (G.state q ≡ drained (posted (s ∷ []) (G.state p))) (q ≡ p) → Through G s p q
+    → ByAnswer r (G.state q ≡ drained (posted (s ∷ []) (G.state p))) (q ≡ p) → Through G.state G.does s r p q
     → Called G m p (Unposted s) x m q
 unposted_called G m p s r x q e a b l d =
-    store_called G m p (Unposted s) s r x q (G.state q ≡ drained (posted (s ∷ []) (G.state p))) refl refl e refl a b (landed_all (Unposted s) (G.state p) (G.state q) refl) l d
+    store_called G m p (Unposted s) s r x q (G.state q ≡ drained (posted (s ∷ []) (G.state p))) refl refl e refl a b (landed_all (Unposted s) (G.state p) (G.state q) refl) l
+    (subst (λ (y : Result (Unit {0}) Fault). Through G.state G.does s y p q) a d)
 
 pub locked_called : {P : Type 0} (G : Ghosts P) (m : Mode) (p : P) (s : Store) (r : Result (Unit {0}) Fault) (x : Result Answer Fault) (q : P)
     → stop m (LockedWrite s) ≡ None → r ≡ write_answer (G.state p) s → x ≡ as_done r
-    → ByAnswer r (G.state q ≡ drained (posted (s ∷ []) (G.state p))) (q ≡ p) → Through G s p q
+    → ByAnswer r (G.state q ≡ drained (posted (s ∷ []) (G.state p))) (q ≡ p) → Through G.state G.does s r p q
     → Called G m p (LockedWrite s) x m q
 locked_called G m p s r x q e a b l d =
-    store_called G m p (LockedWrite s) s r x q (G.state q ≡ drained (posted (s ∷ []) (G.state p))) refl refl e refl a b (landed_all (LockedWrite s) (G.state p) (G.state q) refl) l d
+    store_called G m p (LockedWrite s) s r x q (G.state q ≡ drained (posted (s ∷ []) (G.state p))) refl refl e refl a b (landed_all (LockedWrite s) (G.state p) (G.state q) refl) l
+    (subst (λ (y : Result (Unit {0}) Fault). Through G.state G.does s y p q) a d)
 
 pub lock_called : {P : Type 0} (G : Ghosts P) (m : Mode) (p q : P)
     → stop m Lock ≡ None → G.state q ≡ drained (G.state p) → Drains G.state G.does p q

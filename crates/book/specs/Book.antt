@@ -4,7 +4,6 @@ use Rattle.fault.specs.declared.Fault.{Fault}
 use Rattle.fault.specs.declared.Refusal.{Refusal}
 use Rattle.fault.specs.declared.Refusal.TheVariants.{Unreadable}
 use Rattle.calls.specs.declared.call.Call.{Call}
-use Rattle.calls.specs.declared.call.Call.TheVariants.{Read, Write as Post, Unposted, Advance, Lock, LockedRead, LockedWrite, Unlock, Ask, MasterRead, MasterWrite, Give, Snoop, Flush}
 use Rattle.port.specs.declared.Store.{Store}
 use Rattle.port.specs.Memory.{Memory, State, applied, seen, posted, settling, drained}
 use Rattle.book.specs.declared.answer.Mode.{Mode}
@@ -31,8 +30,8 @@ refused b c = refusal b.mode b.state.facts.words c
 abbrev pub joins : Book → Call → List Store
 joins b c = if_taken (refused b c) (posts c) []
 
-abbrev pub line : Book → Call → List Store
-line b c = b.state.waiting ++ joins b c
+abbrev pub waiting_line : Book → Call → List Store
+waiting_line b c = b.state.waiting ++ joins b c
 
 -- A master's write goes past the line, and settles at once.
 abbrev pub masters : Book → Call → List Store
@@ -43,8 +42,7 @@ abbrev pub settle : ℕ → State → State
 settle k s = settling (take k s.waiting) (drop k s.waiting) s
 
 abbrev pub mastered : List Store → State → State
-mastered ws s =
-    record { facts = s.facts; protected = s.protected; settled = applied s.protected ws s.settled; waiting = s.waiting }
+mastered ws s = record s { settled = applied s.protected ws s.settled }
 
 abbrev pub mode_after : Book → Call → Mode
 mode_after b c = if_taken (refused b c) (goes_to b.mode c) b.mode
@@ -63,7 +61,7 @@ Admits one_or_more waiting k = (k ≤ waiting) × (0 < waiting → 0 < k)
 Admits all waiting k = k ≡ waiting
 
 abbrev pub Allowed : Book → Call → ℕ → Type 0
-Allowed b c k = Admits (rule b c) (length (line b c)) k
+Allowed b c k = Admits (rule b c) (length (waiting_line b c)) k
 
 -- What a call that is taken says: a processor's read the seen word, a locked or a master's read the settled one.
 abbrev pub reading : Memory → ℕ → Result Answer Refusal

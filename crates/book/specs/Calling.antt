@@ -3,11 +3,9 @@ use Rattle.std.specs.Prelude.{◌≡◌, ℕ, [], ◌∷◌, Some, None, Ok, Err
 use Rattle.fault.specs.declared.Fault.{Fault}
 use Rattle.fault.specs.declared.Refusal.{Refusal}
 use Rattle.calls.specs.declared.call.Call.{Call}
-use Rattle.calls.specs.declared.call.Call.TheVariants.{Read, Write as Post, Unposted, Advance, Lock, LockedRead, LockedWrite, Unlock, Ask, MasterRead, MasterWrite, Give, Snoop, Flush}
-use Rattle.port.specs.declared.Store.{Store}
 use Rattle.port.specs.declared.Port.{Ghosts}
-use Rattle.port.specs.Meaning.{read_answer, write_answer, snoop_answer, ByAnswer, Kept}
-use Rattle.port.specs.Steps.{reads, writes, advances, outsides, snoops, flushes, Chain, Drains}
+use Rattle.port.specs.Meaning.{read_answer, write_answer, snoop_answer, Kept}
+use Rattle.port.specs.Steps.{reads, writes, advances, outsides, snoops, flushes, Chain, Drains, Through}
 use Rattle.book.specs.declared.answer.Mode.{Mode}
 use Rattle.book.specs.declared.answer.Answer.{Answer}
 use Rattle.book.specs.declared.answer.Answer.TheVariants.{Done, Word}
@@ -23,12 +21,6 @@ abbrev pub as_word : Result ℕ Fault → Result Answer Fault
 as_word (Ok v) = Ok (Word v)
 as_word (Err fault) = Err fault
 
--- A write, and if it is taken, advances until none waits.
-pub record Through {P : Type 0} (G : Ghosts P) (w : Store) (p q : P) : Type 0 where
-  pub between : P
-  pub wrote : G.does p (writes w (write_answer (G.state p) w)) between
-  pub drains : ByAnswer (write_answer (G.state p) w) (Drains G.state G.does between q) (q ≡ between)
-
 -- The calls of the port that a call of the board makes. Settled reads change no port, and are not among them.
 abbrev pub MakesBy : {P : Type 0} → Ghosts P → Asks → P → P → Type 0
 MakesBy G nothing p q = q ≡ p
@@ -39,7 +31,7 @@ MakesBy G (read w) p q = Chain G.does p (reads w (read_answer (G.state p) w) ∷
 MakesBy G (peek w) p q = q ≡ p
 MakesBy G (snoop w) p q = Chain G.does p (snoops w (snoop_answer (G.state p) w) ∷ []) q
 MakesBy G (write s) p q = Chain G.does p (writes s (write_answer (G.state p) s) ∷ []) q
-MakesBy G (through s) p q = Through G s p q
+MakesBy G (through s) p q = Through G.state G.does s (write_answer (G.state p) s) p q
 MakesBy G (outside s) p q = Chain G.does p (outsides s (write_answer (G.state p) s) ∷ []) q
 
 abbrev pub Makes : {P : Type 0} → Ghosts P → Call → P → P → Type 0

@@ -2,7 +2,7 @@
 use Rattle.std.specs.Prelude.{ℕ, cond, List, [], ◌∷◌, Some, None, Option, nat_lt}
 use Rattle.fault.specs.declared.Fault.{Fault}
 use Rattle.fault.specs.declared.Refusal.{Refusal}
-use Rattle.fault.specs.declared.Refusal.TheVariants.{PastEnd, BadLanes, Unreadable, Locked as IsLocked, Granted as IsGranted, NotLocked, NotGranted, UnfitSize, ListLength, ListWord}
+use Rattle.fault.specs.declared.Refusal.TheVariants.{PastEnd, BadLanes, Locked as IsLocked, Granted as IsGranted, NotLocked, NotGranted}
 use Rattle.calls.specs.declared.call.Call.{Call}
 use Rattle.calls.specs.declared.call.Call.TheVariants.{Read, Write as Post, Unposted, Advance, Lock, LockedRead, LockedWrite, Unlock, Ask, MasterRead, MasterWrite, Give, Snoop, Flush}
 use Rattle.calls.specs.declared.call.Cargo.{Cargo}
@@ -112,14 +112,11 @@ place_in (OfStore s) = s.word
 abbrev pub floor_for : ℕ → Refusal → ℕ
 floor_for floor PastEnd = floor
 floor_for floor BadLanes = floor
-floor_for floor Unreadable = 0
 floor_for floor IsLocked = floor_above floor
 floor_for floor IsGranted = floor_above floor
 floor_for floor NotLocked = floor_above floor
 floor_for floor NotGranted = floor_above floor
-floor_for floor UnfitSize = 0
-floor_for floor ListLength = 0
-floor_for floor ListWord = 0
+floor_for floor other = 0
 
 abbrev pub fault_of : ℕ → Call → Refusal → Fault
 fault_of floor c r = record { refusal = r; place = place_in (cargo_of c); floor = floor_for floor r }

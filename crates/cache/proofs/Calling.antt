@@ -6,7 +6,7 @@ use Rattle.std.proofs.lemmas.Bool.{cond-true, cond-false}
 use Rattle.fault.specs.declared.Fault.{Fault}
 use Rattle.port.specs.declared.Port.{Ghosts}
 use Rattle.port.specs.declared.Store.{Store}
-use Rattle.port.specs.Memory.{State, posted, outside, raised}
+use Rattle.port.specs.Memory.{State, posted, outside, raised, line_of, most_words}
 use Rattle.port.specs.Meaning.{Settles, Advances, ByAnswer, read_answer, write_answer, writable, unreadable}
 use Rattle.port.specs.Steps.{Step, reads, advances, Chain, done, then}
 use Rattle.port.proofs.Settling.{settles_then, settles_under, settles_raised, settles_length}
@@ -14,8 +14,8 @@ use Rattle.port.specs.Checks.{InRange}
 use Rattle.port.proofs.Checking.{Answer, as_ok, in_ok}
 use Rattle.port.proofs.Chains.{chain_append}
 use Rattle.directory.specs.declared.fills.Fill.{Fill}
-use Rattle.directory.specs.Dirs.{Dir, line_of, found}
-use Rattle.directory.specs.Ticks.{next_word, stored}
+use Rattle.directory.specs.Dirs.{Dir, found}
+use Rattle.directory.specs.Ticks.{next_word, with_word}
 use Rattle.cache.specs.declared.cache.Cache.{Cache}
 use Rattle.cache_tables.specs.Showing.{Shown, shown, reading}
 use Rattle.cache_tables.specs.Rules.{Model, Turn, turn, idle, stowed, fetched, fetch_calls, fetch_turn, finished_of, finished, finish_calls, finish_turn, buffered_of, hit, touched_by, begun, read_after, read_turn, cleared, dropped, written, fills_open, ready_turn, advance_turn}
@@ -50,7 +50,7 @@ module _ (s : State) (m : Model) (b : Fill) (w : ℕ) (is : m.fill ≡ Some b) (
   there : (r : Result ℕ Fault) → r ≡ read_answer s w → r ≡ reading (shown s) w
   there r e = read_there s w r (fetch_inside (shown s) m.dir m.fill b is c w at) e
 
-  pub word_came : (x : ℕ) (n : Model) → Ok x ≡ read_answer s w → n ≡ stowed m.dir (stored b x) → n ≡ fetched (shown s) m
+  pub word_came : (x : ℕ) (n : Model) → Ok x ≡ read_answer s w → n ≡ stowed m.dir (with_word b x) → n ≡ fetched (shown s) m
   word_came x n r e = fetch_ok (shown s) m.dir m.fill b is c w at x n (there (Ok x) r) e
 
   pub word_lost : (x : Fault) → Err x ≡ read_answer s w → idle m.dir ≡ fetched (shown s) m
@@ -169,7 +169,7 @@ pub outside_kept : (s t : State) (m n : Model) (w : Store) → t ≡ outside w s
 outside_kept s t m n w e q c =
     subst (λ (x : State). Coherent (shown x) n) (sym e) (coherent_as (shown (outside w s)) (dropped m (line_of w.word)) n q (outside_keeps s w m c))
 
-pub cleared_kept : (s t : State) (n : Model) → t ≡ s → n ≡ cleared → s.facts.words ≤ 8388608 → s.facts.words % 8 ≡ 0 → Coherent (shown t) n
+pub cleared_kept : (s t : State) (n : Model) → t ≡ s → n ≡ cleared → s.facts.words ≤ most_words → s.facts.words % 8 ≡ 0 → Coherent (shown t) n
 cleared_kept s t n e q few lined =
     subst (λ (x : State). Coherent (shown x) n) (sym e) (coherent_as (shown s) cleared n q (clear_keeps (shown s) few lined))
 

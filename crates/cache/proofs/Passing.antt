@@ -1,22 +1,23 @@
 -- Whatever is no read goes through a cache.
-use Rattle.std.proofs.Common.{◌≡◌, ℕ, zero, suc, Bool, true, false, cond, List, [], ◌∷◌, ◌++◌, Some, None, Ok, Err, Option, Result, sym, refl, ap, ◌∙◌, subst, ap₂, append_assoc}
+use Rattle.std.proofs.Common.{◌≡◌, ℕ, zero, suc, Bool, true, false, cond, List, [], ◌∷◌, ◌++◌, Some, None, Ok, Err, Option, Result, refl, ap, ◌∙◌, ap₂}
 use Rattle.std.specs.Option.{option_map_or}
 use Rattle.fault.specs.declared.Fault.{Fault}
 use Rattle.port.specs.declared.Port.{Ghosts}
 use Rattle.port.specs.Meaning.{within, ByAnswer}
-use Rattle.port.specs.Steps.{Step, reads, writes, advances, outsides, snoops, flushes, done, then}
+use Rattle.port.specs.Steps.{Step, reads, writes, advances, outsides, snoops, flushes, done, then, accepted, Gets}
 use Rattle.directory.specs.declared.fills.Fill.{Fill}
-use Rattle.directory.specs.Dirs.{line_of}
+use Rattle.port.specs.Memory.{line_of}
 use Rattle.cache.specs.declared.cache.Cache.{Cache}
 use Rattle.cache_tables.specs.Showing.{Shown, reading}
 use Rattle.cache_tables.specs.Rules.{Model, Turn, turn, fetched, fetch_calls, lacking, fetches, finished, finish_calls, finish_turn, buffered_of, hit, touched_by, begun, read_after, read_turn, fills_open, ready_turn}
 use Rattle.cache.specs.Doing.{shows_below, tables_of, TakesTurn, Does}
-use Rattle.cache.specs.Runs.{passed_by, passed, Below, OnlyReadsAreKept}
-use Rattle.port.proofs.Chains.{chain_append}
+use Rattle.cache.specs.Runs.{OnlyReadsAreKept}
+use Rattle.port.proofs.Chains.{gets_none, gets_then}
+use Rattle.std.specs.Prelude.{flat_map}
+use Rattle.std.proofs.lemmas.List.Concat.{flat_map-append}
 
-passed-append : (xs ys : List Step) → passed (xs ++ ys) ≡ passed xs ++ passed ys
-passed-append [] ys = refl
-passed-append (x ∷ xs) ys = ap (λ (l : List Step). passed_by x ++ l) (passed-append xs ys) ∙ sym (append_assoc (passed_by x) (passed xs) (passed ys))
+abbrev passed : List Step → List Step
+passed = flat_map accepted
 
 -- ---- the cache's own calls are reads
 
@@ -27,10 +28,10 @@ fetch_reads v (Some b) = refl
 fetches_read : (n : ℕ) (v : Shown) (t : Model) → passed (fetches n v t) ≡ []
 fetches_read zero v t = refl
 fetches_read (suc n) v t =
-    passed-append (fetch_calls v t.fill) (fetches n v (fetched v t)) ∙ ap₂ (λ (xs ys : List Step). xs ++ ys) (fetch_reads v t.fill) (fetches_read n v (fetched v t))
+    flat_map-append accepted (fetch_calls v t.fill) (fetches n v (fetched v t)) ∙ ap₂ (λ (xs ys : List Step). xs ++ ys) (fetch_reads v t.fill) (fetches_read n v (fetched v t))
 
 after_reads : (xs ys : List Step) → passed xs ≡ [] → passed (xs ++ ys) ≡ passed ys
-after_reads xs ys e = passed-append xs ys ∙ ap (λ (l : List Step). l ++ passed ys) e
+after_reads xs ys e = flat_map-append accepted xs ys ∙ ap (λ (l : List Step). l ++ passed ys) e
 
 finish_reads : (v : Shown) (t : Model) → passed (finish_calls v t) ≡ []
 finish_reads v t = fetches_read (lacking t.fill) v t
@@ -60,17 +61,20 @@ ready_reads v t line = by_test (fills_open t.fill line)
 -- ---- one call, and many
 
 module _ {P : Type 0} {G : Ghosts P} where
+  abbrev Below : List Step → Cache P G → Cache P G → Type 0
+  Below ds b c = Gets G.does accepted ds b.below c.below
+
   takes_through : (t : Turn) (ds : List Step) (b c : Cache P G) → passed t.calls ≡ ds → TakesTurn t b c → Below ds b c
-  takes_through t ds b c e h = record { calls = t.calls; chain = h.below; through = e }
+  takes_through t ds b c e h = record { calls = t.calls; chain = h.below; counted = e }
 
   untouched : (b c : Cache P G) → c ≡ b → Below [] b c
-  untouched b c e = let F : Cache P G → Type 0 = λ x. Below [] b x in subst F (sym e) (record { calls = []; chain = done; through = refl })
+  untouched b c e = gets_none (ap (λ (x : Cache P G). x.below) e)
 
   read_through : (w : ℕ) (r : Result (Unit {0}) Fault) (b c : Cache P G) → ByAnswer r (TakesTurn (read_turn (shows_below b) (tables_of b) w) b c) (c ≡ b) → Below [] b c
   read_through w (Ok _) b c h = takes_through _ _ b c (read_reads (shows_below b) (tables_of b) w) h
   read_through w (Err _) b c h = untouched b c h
 
-  step_through : (d : Step) (b c : Cache P G) → Does b d c → Below (passed_by d) b c
+  step_through : (d : Step) (b c : Cache P G) → Does b d c → Below (accepted d) b c
   step_through (reads w r) b c h = read_through w (within w (G.state b.below).facts.words (G.state b.below).facts.floor) b c h
   step_through (writes w (Ok _)) b c h =
       takes_through _ _ b c (after_reads (ready_turn (shows_below b) (tables_of b) (line_of w.word)).calls (writes w (Ok tt) ∷ []) (ready_reads (shows_below b) (tables_of b) (line_of w.word))) h
@@ -84,11 +88,4 @@ module _ {P : Type 0} {G : Ghosts P} where
 
   pub only_reads_are_kept : OnlyReadsAreKept G
   only_reads_are_kept b c [] done = untouched b b refl
-  only_reads_are_kept b c (d ∷ ds) (then {q = m} h k) =
-      let one = step_through d b m h in
-      let more = only_reads_are_kept m c ds k in
-      record {
-        calls = one.calls ++ more.calls;
-        chain = chain_append one.chain more.chain;
-        through = passed-append one.calls more.calls ∙ ap₂ (λ (xs ys : List Step). xs ++ ys) one.through more.through;
-      }
+  only_reads_are_kept b c (d ∷ ds) (then {q = m} h k) = gets_then (step_through d b m h) (only_reads_are_kept m c ds k)

@@ -20,7 +20,8 @@ pub struct Cache<P: Port> {
 impl<P: Port> Cache<P> {
     ghost use Rattle.std.specs.Prelude.{◌≡◌, ◌<◌, false, None};
     ghost use Rattle.port.specs.Meaning.{Settles};
-    ghost use Rattle.directory.specs.Dirs.{line_of, found};
+    ghost use Rattle.directory.specs.Dirs.{found};
+    ghost use Rattle.port.specs.Memory.{line_of};
     ghost use Rattle.cache_tables.specs.Showing.{reading};
     ghost use Rattle.cache_tables.specs.Rules.{fetch_turn, finish_turn, miss_turn, fills_open, ready_turn};
     ghost use Rattle.cache.specs.Doing.{shows_below, tables_of, TakesTurn};
@@ -105,8 +106,6 @@ impl<P: Port> Cache<P> {
         ensures examples { WorkedExamples }
         ensures run { OnlyReadsAreKept P.Port }
     {
-        // A port tells with its size that it consists of whole lines, which the tables rest on.
-        let _ = below.words();
         Cache {
             below,
             tables: Tables::new(),
@@ -208,4 +207,6 @@ impl<P: Port> Port for Cache<P> {
         self.tables.clear();
         self.below.flush();
     }
+
+    ghost whole = { λ c. P.whole c.below };
 }

@@ -5,7 +5,8 @@ use Rattle.port.specs.declared.Store.{Store}
 use Rattle.directory.specs.declared.marks.WayNumber.{WayNumber}
 use Rattle.directory.specs.declared.sets.Way.{Way}
 use Rattle.directory.specs.declared.fills.Fill.{Fill}
-use Rattle.directory.specs.Dirs.{Dir, line_of, place_of, set_of, found, touched, changed}
+use Rattle.directory.specs.Dirs.{Dir, set_of, found, touched, changed}
+use Rattle.port.specs.Memory.{line_of, place_of}
 use Rattle.cache_tables.specs.Rules.{Model, hit_of, hit, changed_way, changed_of, changed_word, written}
 
 module _ (w : Store) (k : WayNumber) where

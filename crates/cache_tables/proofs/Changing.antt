@@ -2,8 +2,8 @@
 use Rattle.std.proofs.Common.{◌≡◌, ℕ, ◌+◌, ◌*◌, ◌/◌, ◌%◌, ◌<◌, ◌≤◌, Bool, true, false, cond, if◌then◌else◌, not, ◌&&◌, eqb, ◌≢◌, List, [], ◌∷◌, get_or, set, Some, None, Option, sym, refl, ap, ◌∙◌, subst, inl, inr, arith}
 use Rattle.std.proofs.lemmas.Bool.{ne_eqb, eqb-true, eq-eqb, eqb-false, both_ways, and_from, and_cases, cond-true, cond-false, not-false}
 use Rattle.port.specs.declared.Store.{Store}
-use Rattle.port.specs.Lanes.{joined}
-use Rattle.port.specs.Memory.{State, Memory, stored, applied, posted, outside}
+use Rattle.port.specs.Lanes.{merged}
+use Rattle.port.specs.Memory.{State, Memory, stored, applied, posted, outside, line_of, place_of, most_words}
 use Rattle.port.proofs.Settling.{applied-append, applied_readable}
 use Rattle.directory.specs.declared.marks.WayNumber.{WayNumber}
 use Rattle.directory.specs.declared.sets.Way.{Way}
@@ -11,7 +11,7 @@ use Rattle.directory.specs.declared.fills.Fill.{Fill}
 use Rattle.std.specs.Option.{option_map}
 use Rattle.directory.specs.Touch.{index_of, same_way}
 use Rattle.directory.specs.Sets.{has_tag, worded_way}
-use Rattle.directory.specs.Dirs.{Dir, line_of, place_of, set_of, tag_of, holds, found, changed, dropped_of}
+use Rattle.directory.specs.Dirs.{Dir, set_of, tag_of, holds, found, changed, dropped_of}
 use Rattle.directory.specs.Dirs.{dropped as dropped_dir}
 use Rattle.directory.specs.Ticks.{ticked, fetched_word}
 use Rattle.directory.specs.Laws.{TagsAreApart}
@@ -71,7 +71,7 @@ module _ (v : Shown) (t : Model) (l : ℕ) (c : Coherent v t) where
   drop_absent : (i : ℕ) (k : WayNumber) (y : Way) → (dropped t l).dir.way i k ≡ Some y → line_in i y ≢ l
   drop_absent i k y q e = absurd (cc ((drop_forgets t.dir l c.apart).gone, (found_only v (dropped t l) l i k y drop_keeps q e).1))
 
-pub clear_keeps : (v : Shown) → v.words ≤ 8388608 → v.words % 8 ≡ 0 → Coherent v cleared
+pub clear_keeps : (v : Shown) → v.words ≤ most_words → v.words % 8 ≡ 0 → Coherent v cleared
 clear_keeps v few lined = record {
   few = few;
   lined = lined;
@@ -126,7 +126,7 @@ filling_alike v u d b e a h = record {
 
 coherent_alike : (v u : Shown) (t : Model) → Alike v u → Coherent v t → ((i : ℕ) (k : WayNumber) (y : Way) → t.dir.way i k ≡ Some y → Same v u (line_in i y)) → FillSame v u t.fill → Coherent u t
 coherent_alike v u t e c a b = record {
-  few = subst (λ (n : ℕ). n ≤ 8388608) (sym e.words) c.few;
+  few = subst (λ (n : ℕ). n ≤ most_words) (sym e.words) c.few;
   lined = subst (λ (n : ℕ). n % 8 ≡ 0) (sym e.words) c.lined;
   ways = λ i k y q. kept_alike v u i y e (a i k y q) (c.ways i k y q);
   apart = c.apart;
@@ -139,7 +139,7 @@ coherent_alike v u t e c a b = record {
 applied_at : (p : ℕ → Bool) (ws : List Store) (m n : Memory) (a : ℕ) → m.word a ≡ n.word a → (applied p ws m).word a ≡ (applied p ws n).word a
 applied_at p [] m n a e = e
 applied_at p (w ∷ ws) m n a e =
-    applied_at p ws (stored p w m) (stored p w n) a (ap (λ (x : ℕ). cond (eqb a w.word) (cond (p (a / 8)) x (joined w.lanes x w.value)) x) e)
+    applied_at p ws (stored p w m) (stored p w n) a (ap (λ (x : ℕ). cond (eqb a w.word) (cond (p (a / 8)) x (merged w.lanes x w.value)) x) e)
 
 module _ (s : State) (w : Store) where
   outside_alike : Alike (shown s) (shown (outside w s))
@@ -168,7 +168,7 @@ overwritten v w = record {
   words = v.words;
   cacheable = v.cacheable;
   protected = v.protected;
-  word = λ a. cond (eqb a w.word) (cond (v.protected (a / 8)) (v.word a) (joined w.lanes (v.word a) w.value)) (v.word a);
+  word = λ a. cond (eqb a w.word) (cond (v.protected (a / 8)) (v.word a) (merged w.lanes (v.word a) w.value)) (v.word a);
   readable = v.readable;
 }
 
@@ -186,22 +186,22 @@ module _ (v : Shown) (w : Store) where
   line_kept : (l : ℕ) → (l ≡ line → v.protected l ≡ true) → Same v (overwritten v w) l
   line_kept l a x e = by_test (eqb x w.word) refl
     where
-      by_test : (q : Bool) → eqb x w.word ≡ q → cond q (cond (v.protected (x / 8)) (v.word x) (joined w.lanes (v.word x) w.value)) (v.word x) ≡ v.word x
+      by_test : (q : Bool) → eqb x w.word ≡ q → cond q (cond (v.protected (x / 8)) (v.word x) (merged w.lanes (v.word x) w.value)) (v.word x) ≡ v.word x
       by_test false h = refl
       by_test true h =
           cond-true (v.protected (x / 8)) (v.word x) _ (ap (λ (y : ℕ). v.protected y) e ∙ a (sym e ∙ ap line_of (eqb-true x w.word h)))
 
   line_written : v.protected line ≡ false →
-      set (line_seen v line) (place_of w.word) (joined w.lanes (get_or (line_seen v line) (place_of w.word) 0) w.value) ≡ line_seen (overwritten v w) line
+      set (line_seen v line) (place_of w.word) (merged w.lanes (get_or (line_seen v line) (place_of w.word) 0) w.value) ≡ line_seen (overwritten v w) line
   line_written o = eight_set (λ p. v.word (line * 8 + p)) (λ p. (overwritten v w).word (line * 8 + p)) (place_of w.word) _ (omega arith) here other
     where
-      here : (overwritten v w).word (line * 8 + place_of w.word) ≡ joined w.lanes (get_or (line_seen v line) (place_of w.word) 0) w.value
+      here : (overwritten v w).word (line * 8 + place_of w.word) ≡ merged w.lanes (get_or (line_seen v line) (place_of w.word) 0) w.value
       here =
           let hp : place_of w.word < 8 = omega arith in
           let at : (line * 8 + place_of w.word) / 8 ≡ line = omega arith in
           cond-true (eqb (line * 8 + place_of w.word) w.word) _ _ (eq-eqb (line * 8 + place_of w.word) w.word (line_word w.word))
           ∙ cond-false (v.protected ((line * 8 + place_of w.word) / 8)) _ _ (ap (λ (x : ℕ). v.protected x) at ∙ o)
-          ∙ ap (λ (x : ℕ). joined w.lanes x w.value) (sym (eight_at (λ p. v.word (line * 8 + p)) (place_of w.word) hp))
+          ∙ ap (λ (x : ℕ). merged w.lanes x w.value) (sym (eight_at (λ p. v.word (line * 8 + p)) (place_of w.word) hp))
 
       other : (p : ℕ) → p < 8 → p ≢ place_of w.word → (overwritten v w).word (line * 8 + p) ≡ v.word (line * 8 + p)
       other p hp n = cond-false (eqb (line * 8 + p) w.word) _ _ (ne_eqb (line * 8 + p) w.word (λ e. n (omega arith)))
@@ -242,7 +242,7 @@ module _ (v : Shown) (w : Store) where
         set = holding.kept.set;
         inside = holding.kept.inside;
         same =
-            ap (λ (ws : List ℕ). set ws (place_of w.word) (joined w.lanes (get_or ws (place_of w.word) 0) w.value)) (holding.kept.same ∙ ap (line_seen v) holding.line)
+            ap (λ (ws : List ℕ). set ws (place_of w.word) (merged w.lanes (get_or ws (place_of w.word) 0) w.value)) (holding.kept.same ∙ ap (line_seen v) holding.line)
             ∙ line_written (sym shut ∙ o)
             ∙ ap (line_seen (overwritten v w)) (sym holding.line);
         legible = holding.kept.legible;

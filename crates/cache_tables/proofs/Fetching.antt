@@ -11,7 +11,7 @@ use Rattle.port.proofs.Settling.{seen_kept}
 use Rattle.port.proofs.Chains.{chain_append}
 use Rattle.directory.specs.declared.fills.Fill.{Fill}
 use Rattle.directory.specs.Dirs.{Dir, installed}
-use Rattle.directory.specs.Ticks.{next_word, complete, stored}
+use Rattle.directory.specs.Ticks.{next_word, complete, with_word}
 use Rattle.cache_tables.specs.Showing.{Shown, shown, shown_as, reading}
 use Rattle.cache_tables.specs.Rules.{Model, idle, stowed, fetched_of, fetched, fetch_calls, finished_of, finished, lacking, fetches, finish_calls}
 use Rattle.cache_tables.specs.Coherence.{Sees, Filling, Coherent}
@@ -56,18 +56,18 @@ module _ (v : Shown) (d : Dir) (f : Option Fill) (b : Fill) (is : f ≡ Some b) 
   pub filling : Filling v d b
   filling = c.fill b is
 
-  fetch_at : (t : Bool) → v.readable (next_word b) ≡ t → cond t (stowed d (stored b (v.word (next_word b)))) (idle d) ≡ fetched_of v d f
+  fetch_at : (t : Bool) → v.readable (next_word b) ≡ t → cond t (stowed d (with_word b (v.word (next_word b)))) (idle d) ≡ fetched_of v d f
   fetch_at t e =
-      ap (λ (y : Bool). cond y (stowed d (stored b (v.word (next_word b)))) (idle d)) (sym e) ∙ ap (fetched_of v d) (sym is)
+      ap (λ (y : Bool). cond y (stowed d (with_word b (v.word (next_word b)))) (idle d)) (sym e) ∙ ap (fetched_of v d) (sym is)
 
   module _ (w : ℕ) (at : w ≡ next_word b) where
     pub fetch_inside : w < v.words
     fetch_inside = omega (arith, at, next_inside v d b filling)
 
-    pub fetch_ok : (x : ℕ) (m : Model) → Ok x ≡ reading v w → m ≡ stowed d (stored b x) → m ≡ fetched_of v d f
+    pub fetch_ok : (x : ℕ) (m : Model) → Ok x ≡ reading v w → m ≡ stowed d (with_word b x) → m ≡ fetched_of v d f
     fetch_ok x m r e =
         let sees = read_ok v w x r in
-        e ∙ ap (λ (y : ℕ). stowed d (stored b y)) (sees.1 ∙ ap (λ (y : ℕ). v.word y) at)
+        e ∙ ap (λ (y : ℕ). stowed d (with_word b y)) (sees.1 ∙ ap (λ (y : ℕ). v.word y) at)
         ∙ fetch_at true (ap (λ (y : ℕ). v.readable y) (sym at) ∙ sees.0)
 
     pub fetch_err : (x : Fault) → Err x ≡ reading v w → idle d ≡ fetched_of v d f
@@ -97,7 +97,7 @@ fetches_none (suc n) v d = fetches_none n v d
 
 module _ (v : Shown) (d : Dir) (b : Fill) (c : Coherent v (record { dir = d; fill = Some b })) where
   abbrev next : Fill
-  next = stored b (v.word (next_word b))
+  next = with_word b (v.word (next_word b))
 
   pub fetch_falls : lacking (fetched_of v d (Some b)).fill < lacking (Some b)
   fetch_falls = by_read (v.readable (next_word b)) refl

@@ -7,8 +7,9 @@ use Rattle.directory.specs.declared.sets.Way.{Way}
 use Rattle.directory.specs.declared.fills.Fill.{Fill}
 use Rattle.directory.specs.Touch.{same_way}
 use Rattle.directory.specs.Sets.{filled_way}
-use Rattle.directory.specs.Dirs.{Dir, line_of, place_of, set_of, tag_of, put, touched, found, installed}
-use Rattle.directory.specs.Ticks.{ticked, ticks_after, next_place, next_word, complete, stored, fetched_word}
+use Rattle.directory.specs.Dirs.{Dir, set_of, tag_of, put, touched, found, installed}
+use Rattle.port.specs.Memory.{line_of, place_of}
+use Rattle.directory.specs.Ticks.{ticked, ticks_after, next_place, next_word, complete, with_word, fetched_word}
 use Rattle.directory.proofs.Apart.{apart_installed}
 use Rattle.directory.proofs.Ticking.{next_small, stored_count, stored_ordered, store_adds, ticked_all}
 use Rattle.cache_tables.specs.Showing.{Shown, line_seen, whole}
@@ -82,19 +83,19 @@ module _ (v : Shown) (d : Dir) (b : Fill) (h : Filling v d b) where
   next_inside = omega (arith, next_below, h.inside)
 
   module _ (r : v.readable (next_word b) ≡ true) where
-    got_more : (w x : ℕ) → fetched_word (stored b (v.word (next_word b))) w ≡ Some x → Sees v w x
+    got_more : (w x : ℕ) → fetched_word (with_word b (v.word (next_word b))) w ≡ Some x → Sees v w x
     got_more w x e =
         elim (cases_eq w (next_word b)) [
-          | inl y ↦ (let same : Some (v.word (next_word b)) ≡ Some x = sym (store_adds b h.under (v.word (next_word b))).new ∙ ap (fetched_word (stored b (v.word (next_word b)))) (sym y) ∙ e in
+          | inl y ↦ (let same : Some (v.word (next_word b)) ≡ Some x = sym (store_adds b h.under (v.word (next_word b))).new ∙ ap (fetched_word (with_word b (v.word (next_word b)))) (sym y) ∙ e in
               let value : v.word (next_word b) ≡ x = cc in
               (ap (λ (a : ℕ). v.readable a) y ∙ r, sym value ∙ ap (λ (a : ℕ). v.word a) (sym y)))
           | inr n ↦ h.got w x (sym ((store_adds b h.under (v.word (next_word b))).others w n) ∙ e)
         ]
 
-    pub count_more : ones (stored b (v.word (next_word b))).ticks ≡ ones b.ticks + 1
+    pub count_more : ones (with_word b (v.word (next_word b))).ticks ≡ ones b.ticks + 1
     count_more = stored_count b h.under (v.word (next_word b))
 
-    pub filling_more : ones (stored b (v.word (next_word b))).ticks < 8 → Filling v d (stored b (v.word (next_word b)))
+    pub filling_more : ones (with_word b (v.word (next_word b))).ticks < 8 → Filling v d (with_word b (v.word (next_word b)))
     filling_more s = record {
       under = record { ordered = stored_ordered b h.under (v.word (next_word b)); short = s };
       inside = h.inside;
@@ -104,14 +105,14 @@ module _ (v : Shown) (d : Dir) (b : Fill) (h : Filling v d b) where
       absent = h.absent;
     }
 
-    module _ (full : ones (stored b (v.word (next_word b))).ticks ≡ 8) where
-      all_ticked : (p : ℕ) → p < 8 → ticked (stored b (v.word (next_word b))).ticks p ≡ true
+    module _ (full : ones (with_word b (v.word (next_word b))).ticks ≡ 8) where
+      all_ticked : (p : ℕ) → p < 8 → ticked (with_word b (v.word (next_word b))).ticks p ≡ true
       all_ticked p hp =
           ap (λ (x : ℕ). ticked x p) ((stored_ordered b h.under (v.word (next_word b))).order ∙ ap (ticks_after b.first) full) ∙ ticked_all b.first p h.under.ordered.place hp
 
-      sees_all : (p : ℕ) → p < 8 → Sees v (b.line * 8 + p) (get_or (stored b (v.word (next_word b))).words p 0)
+      sees_all : (p : ℕ) → p < 8 → Sees v (b.line * 8 + p) (get_or (with_word b (v.word (next_word b))).words p 0)
       sees_all p hp =
-          let b' = stored b (v.word (next_word b)) in
+          let b' = with_word b (v.word (next_word b)) in
           let at : line_of (b.line * 8 + p) ≡ b.line = omega arith in
           let place : place_of (b.line * 8 + p) ≡ p = omega arith in
           got_more (b.line * 8 + p) (get_or b'.words p 0)
@@ -119,7 +120,7 @@ module _ (v : Shown) (d : Dir) (b : Fill) (h : Filling v d b) where
           (and_from _ _ (eq-eqb b.line (line_of (b.line * 8 + p)) (sym at)) (ap (ticked b'.ticks) place ∙ all_ticked p hp))
           ∙ ap (λ (q : ℕ). Some (get_or b'.words q 0)) place)
 
-      pub words_full : (stored b (v.word (next_word b))).words ≡ line_seen v b.line
+      pub words_full : (with_word b (v.word (next_word b))).words ≡ line_seen v b.line
       words_full = eight_is _ (λ p. v.word (b.line * 8 + p)) (stored_ordered b h.under (v.word (next_word b))).sized (λ p hp. (sees_all p hp).1)
 
       pub whole_full : whole v b.line ≡ true
@@ -132,7 +133,7 @@ not_whole v d b h e = not_all (λ p. v.readable (b.line * 8 + p)) 8 (next_place 
 -- one word fetched: the tables stay coherent, to finish them comes to the same, and fewer words are lacking
 module _ (v : Shown) (d : Dir) (b : Fill) (c : Coherent v (record { dir = d; fill = Some b })) where
   abbrev next : Fill
-  next = stored b (v.word (next_word b))
+  next = with_word b (v.word (next_word b))
 
   pub stow_keeps : v.readable (next_word b) ≡ true → (t : Bool) → complete next ≡ t → Coherent v (cond t (idle (installed d b.line b.way b.protect next.words)) (record { dir = d; fill = Some next }))
   stow_keeps r true e =
@@ -154,14 +155,14 @@ pub fetch_keeps : (v : Shown) (d : Dir) (f : Option Fill) → Coherent v (record
 fetch_keeps v d None c = abandon v d None c
 fetch_keeps v d (Some b) c = by_test (v.readable (next_word b)) refl
   where
-    by_test : (t : Bool) → v.readable (next_word b) ≡ t → Coherent v (cond t (stowed d (stored b (v.word (next_word b)))) (idle d))
-    by_test true e = stow_keeps v d b c e (complete (stored b (v.word (next_word b)))) refl
+    by_test : (t : Bool) → v.readable (next_word b) ≡ t → Coherent v (cond t (stowed d (with_word b (v.word (next_word b)))) (idle d))
+    by_test true e = stow_keeps v d b c e (complete (with_word b (v.word (next_word b)))) refl
     by_test false e = abandon v d (Some b) c
 
 pub fetch_finishes : (v : Shown) (d : Dir) (f : Option Fill) → Coherent v (record { dir = d; fill = f }) → finished v (fetched_of v d f) ≡ finished_of v d f
 fetch_finishes v d None c = refl
 fetch_finishes v d (Some b) c = by_test (v.readable (next_word b)) refl
   where
-    by_test : (t : Bool) → v.readable (next_word b) ≡ t → finished v (cond t (stowed d (stored b (v.word (next_word b)))) (idle d)) ≡ finished_of v d (Some b)
-    by_test true e = stow_finishes v d b c e (complete (stored b (v.word (next_word b)))) refl
+    by_test : (t : Bool) → v.readable (next_word b) ≡ t → finished v (cond t (stowed d (with_word b (v.word (next_word b)))) (idle d)) ≡ finished_of v d (Some b)
+    by_test true e = stow_finishes v d b c e (complete (with_word b (v.word (next_word b)))) refl
     by_test false e = ap (λ (t : Bool). idle (cond t (installed d b.line b.way b.protect (line_seen v b.line)) d)) (sym (not_whole v d b (c.fill b refl) e))

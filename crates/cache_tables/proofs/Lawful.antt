@@ -7,8 +7,9 @@ use Rattle.directory.specs.declared.marks.WayNumber.{WayNumber}
 use Rattle.directory.specs.declared.sets.Way.{Way}
 use Rattle.directory.specs.declared.fills.Fill.{Fill}
 use Rattle.directory.specs.Touch.{victim_of}
-use Rattle.directory.specs.Dirs.{Dir, line_of, set_of, touched, found, installed, dropped_of, changed}
-use Rattle.directory.specs.Ticks.{next_word, complete, stored}
+use Rattle.directory.specs.Dirs.{Dir, set_of, touched, found, installed, dropped_of, changed}
+use Rattle.port.specs.Memory.{line_of}
+use Rattle.directory.specs.Ticks.{next_word, complete, with_word}
 use Rattle.directory.proofs.Apart.{install_keeps, drop_forgets, change_moves_none}
 use Rattle.directory.proofs.Sparing.{touch_spares}
 use Rattle.cache_tables.specs.Showing.{Shown, reading, line_seen, whole}
@@ -34,15 +35,15 @@ goes_on : (v : Shown) (d : Dir) (f : Option Fill) (b c : Fill) → f ≡ Some b 
 goes_on v d None b c is e = absurd (cc)
 goes_on v d (Some a) b c is e = by_read (v.readable (next_word a)) e
   where
-    by_full : (full : Bool) → (cond full (idle (installed d a.line a.way a.protect (stored a (v.word (next_word a))).words)) (record { dir = d; fill = Some (stored a (v.word (next_word a))) })).fill ≡ Some c → SameLineAndWay b c
+    by_full : (full : Bool) → (cond full (idle (installed d a.line a.way a.protect (with_word a (v.word (next_word a))).words)) (record { dir = d; fill = Some (with_word a (v.word (next_word a))) })).fill ≡ Some c → SameLineAndWay b c
     by_full true e = absurd (cc)
     by_full false e =
-        let same : c ≡ stored a (v.word (next_word a)) = cc in
+        let same : c ≡ with_word a (v.word (next_word a)) = cc in
         let began : a ≡ b = cc in
         record { line = ap (λ (x : Fill). x.line) same ∙ ap (λ (x : Fill). x.line) began; way = ap (λ (x : Fill). x.way) same ∙ ap (λ (x : Fill). x.way) began }
 
-    by_read : (r : Bool) → (cond r (stowed d (stored a (v.word (next_word a)))) (idle d)).fill ≡ Some c → SameLineAndWay b c
-    by_read true e = by_full (complete (stored a (v.word (next_word a)))) e
+    by_read : (r : Bool) → (cond r (stowed d (with_word a (v.word (next_word a)))) (idle d)).fill ≡ Some c → SameLineAndWay b c
+    by_read true e = by_full (complete (with_word a (v.word (next_word a)))) e
     by_read false e = absurd (cc)
 
 finishes : (v : Shown) (n : ℕ) (d : Dir) (f : Option Fill) → Coherent v (record { dir = d; fill = f }) → lacking f ≤ n → fetched_times n v (record { dir = d; fill = f }) ≡ finished_of v d f
@@ -78,7 +79,7 @@ lands v d (Some a) b c is r e =
     subst (λ (x : Fill). found (fetched_of v d (Some a)).dir x.line ≡ Some x.way) same (by_read (v.readable (next_word a)) (ap (λ (x : Fill). v.readable (next_word x)) same ∙ r) e)
   where
     n : Fill
-    n = stored a (v.word (next_word a))
+    n = with_word a (v.word (next_word a))
 
     by_full : (full : Bool) → (cond full (idle (installed d n.line n.way n.protect n.words)) (record { dir = d; fill = Some n })).fill ≡ None
         → found (cond full (idle (installed d n.line n.way n.protect n.words)) (record { dir = d; fill = Some n })).dir a.line ≡ Some a.way

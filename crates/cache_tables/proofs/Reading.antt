@@ -7,7 +7,7 @@ use lib.Bits.{bit_xor}
 use lib.Count.{ones, ones_in}
 use Rattle.std.proofs.lemmas.Bool.{eqb-true, and_right, cond-false}
 use Rattle.fault.specs.declared.Fault.{Fault}
-use Rattle.port.specs.Memory.{State}
+use Rattle.port.specs.Memory.{State, line_of, place_of}
 use Rattle.port.specs.Meaning.{Settles, marks_answer, within}
 use Rattle.directory.specs.declared.marks.WayNumber.{WayNumber}
 use Rattle.directory.specs.declared.sets.Way.{Way}
@@ -15,8 +15,8 @@ use Rattle.directory.specs.declared.fills.Fill.{Fill}
 use Rattle.std.specs.Option.{option_map}
 use Rattle.directory.specs.Sets.{has_tag}
 use Rattle.directory.specs.Touch.{victim_of}
-use Rattle.directory.specs.Dirs.{Dir, line_of, place_of, set_of, tag_of, holds, found}
-use Rattle.directory.specs.Ticks.{ticked, next_word, starting, stored, fetched_word}
+use Rattle.directory.specs.Dirs.{Dir, set_of, tag_of, holds, found}
+use Rattle.directory.specs.Ticks.{ticked, next_word, starting, with_word, fetched_word}
 use Rattle.directory.proofs.Apart.{held}
 use Rattle.directory.proofs.Ticking.{starts}
 use Rattle.cache_tables.specs.Showing.{Shown, shown, reading}
@@ -131,8 +131,8 @@ module _ (v : Shown) (d : Dir) (w : ℕ) (c : Coherent v (idle d)) (inside : w <
           let h = begin_fill n ek in
           let at = starts_there w n (v.protected (line_of w)) in
           let r : v.readable (next_word b) ≡ true = ap (λ (x : ℕ). v.readable x) at ∙ er in
-          subst (λ (x : ℕ). Coherent v (record { dir = d; fill = Some (stored b (v.word x)) })) at
-          (record { few = c.few; lined = c.lined; ways = c.ways; apart = c.apart; fill = λ a same. given (Filling v d) (stored b (v.word (next_word b))) a same (filling_more v d b h r (omega (arith, count_more v d b h r, ones_zero))) })
+          subst (λ (x : ℕ). Coherent v (record { dir = d; fill = Some (with_word b (v.word x)) })) at
+          (record { few = c.few; lined = c.lined; ways = c.ways; apart = c.apart; fill = λ a same. given (Filling v d) (with_word b (v.word (next_word b))) a same (filling_more v d b h r (omega (arith, count_more v d b h r, ones_zero))) })
 
 -- ---- the miss, as the code goes about it
 

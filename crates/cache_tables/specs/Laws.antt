@@ -2,12 +2,12 @@
 use Rattle.std.specs.Prelude.{◌≡◌, ℕ, zero, suc, true, ◌≢◌, Some, None, Result}
 use Rattle.fault.specs.declared.Fault.{Fault}
 use Rattle.port.specs.declared.Store.{Store}
-use Rattle.port.specs.Memory.{State}
+use Rattle.port.specs.Memory.{State, line_of}
 use Rattle.port.specs.Meaning.{Settles}
 use Rattle.directory.specs.declared.marks.WayNumber.{WayNumber}
 use Rattle.directory.specs.declared.fills.Fill.{Fill}
 use Rattle.directory.specs.Touch.{victim_of}
-use Rattle.directory.specs.Dirs.{Dir, line_of, set_of, found}
+use Rattle.directory.specs.Dirs.{Dir, set_of, found}
 use Rattle.directory.specs.Ticks.{next_word}
 use Rattle.cache_tables.specs.Showing.{Shown, shown, whole}
 use Rattle.cache_tables.specs.Rules.{Model, fetched, finished, lacking, buffered_of, hit, begun, read_turn, write_turn, snoop_turn, outside_turn}

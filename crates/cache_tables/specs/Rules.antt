@@ -3,15 +3,16 @@ use Rattle.std.specs.Prelude.{ℕ, zero, suc, ◌-◌, Bool, false, cond, not, �
 use Rattle.std.specs.Option.{option_map, option_map_or}
 use Rattle.fault.specs.declared.Fault.{Fault}
 use Rattle.port.specs.declared.Store.{Store}
-use Rattle.port.specs.Lanes.{joined}
+use Rattle.port.specs.Lanes.{merged}
 use Rattle.port.specs.Steps.{Step, reads, writes, advances, outsides, snoops, flushes}
 use Rattle.directory.specs.declared.marks.WayNumber.{WayNumber}
 use Rattle.directory.specs.declared.sets.Way.{Way}
 use Rattle.directory.specs.declared.fills.Fill.{Fill}
 use Rattle.directory.specs.Touch.{victim_of}
-use Rattle.directory.specs.Dirs.{Dir, line_of, place_of, set_of, emptied, touched, found, installed, changed}
+use Rattle.directory.specs.Dirs.{Dir, set_of, emptied, touched, found, installed, changed}
+use Rattle.port.specs.Memory.{line_of, place_of}
 use Rattle.directory.specs.Dirs.{dropped as dropped_dir}
-use Rattle.directory.specs.Ticks.{next_word, complete, starting, stored, fetched_word}
+use Rattle.directory.specs.Ticks.{next_word, complete, starting, with_word, fetched_word}
 use Rattle.directory.specs.View.{view}
 use Rattle.cache_tables.specs.declared.tables.Tables.{Tables}
 use Rattle.cache_tables.specs.Showing.{Shown, reading, line_seen, whole}
@@ -48,7 +49,7 @@ stowed d b =
 -- The next word of the line under fill is fetched; if it cannot be read, the fill is abandoned.
 abbrev pub fetched_of : Shown → Dir → Option Fill → Model
 fetched_of v d None = idle d
-fetched_of v d (Some b) = cond (v.readable (next_word b)) (stowed d (stored b (v.word (next_word b)))) (idle d)
+fetched_of v d (Some b) = cond (v.readable (next_word b)) (stowed d (with_word b (v.word (next_word b)))) (idle d)
 
 abbrev pub fetched : Shown → Model → Model
 fetched v t = fetched_of v t.dir t.fill
@@ -105,7 +106,7 @@ touched_by t w = touched_of t w (found t.dir (line_of w))
 
 -- A miss: the word is read below, and if its line may be cached, a fill begins with it, and with the victim of this moment.
 abbrev pub begun_fill : Dir → ℕ → Bool → ℕ → Fill
-begun_fill d w protect value = stored (starting w (victim_of (d.marks (set_of (line_of w)))) protect) value
+begun_fill d w protect value = with_word (starting w (victim_of (d.marks (set_of (line_of w)))) protect) value
 
 abbrev pub begun : Shown → Dir → ℕ → Model
 begun v d w =
@@ -136,7 +137,7 @@ dropped t line = record { dir = dropped_dir t.dir line; fill = left_of line t.fi
 
 -- A write to the way that holds its line: the way is touched, and the lanes change unless the line is protected.
 abbrev pub changed_word : Store → Way → ℕ
-changed_word w y = joined w.lanes (slice_index y.words (place_of w.word)) w.value
+changed_word w y = merged w.lanes (slice_index y.words (place_of w.word)) w.value
 
 abbrev pub changed_way : Dir → Store → WayNumber → Option Way → Dir
 changed_way d w k None = d

@@ -1,7 +1,7 @@
 //! The tables of a cache: the directory, and the line buffer with the fill under way.
 ghost use Rattle.std.specs.Prelude.{◌≡◌, is_some, Some, None};
 ghost use Rattle.directory.specs.Dirs.{found};
-ghost use Rattle.directory.specs.Ticks.{stored, UnderWay};
+ghost use Rattle.directory.specs.Ticks.{with_word, UnderWay};
 ghost use Rattle.cache_tables.specs.Rules.{model, stowed, buffered_of, hit, touched_by, begun_fill, dropped, cleared, fills_open, written};
 
 use directory::{Directory, Fill};
@@ -51,7 +51,7 @@ impl Tables {
     pub fn stow(&mut self, mut fill: Fill, value: u16)
         requires under { UnderWay fill }
         requires absent { found (model self.old).dir fill.line ≡ None }
-        ensures { model self.new ≡ stowed (model self.old).dir (stored fill value) }
+        ensures { model self.new ≡ stowed (model self.old).dir (with_word fill value) }
     {
         fill.store(value);
         if fill.is_complete() {
@@ -105,7 +105,9 @@ impl Tables {
     pub fn drop_line(&mut self, line: u32)
         ensures { model self.new ≡ dropped (model self.old) line }
     {
-        self.fill = self.fill.filter(|fill| fill.line != line);
+        if self.fill.is_some_and(|fill| fill.line == line) {
+            self.fill = None;
+        }
         self.directory.drop_line(line);
     }
 

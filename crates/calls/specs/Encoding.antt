@@ -1,15 +1,16 @@
 -- How calls are written as a list, and the law that ties a list to its calls.
-use Rattle.std.specs.Prelude.{◌≡◌, ℕ, ◌+◌, ◌*◌, ◌/◌, ◌%◌, ◌<◌, ◌≤◌, List, [], ◌∷◌, ◌++◌, length, Ok, Result}
+use Rattle.std.specs.Prelude.{◌≡◌, ℕ, ◌+◌, ◌*◌, ◌/◌, ◌%◌, ◌<◌, ◌≤◌, List, [], ◌∷◌, ◌++◌, length, Ok, Result, ◌^◌}
 use Rattle.fault.specs.declared.Fault.{Fault}
 use Rattle.calls.specs.declared.call.Call.{Call}
 use Rattle.calls.specs.declared.call.Call.TheVariants.{Read, Write, Unposted, Advance, Lock, LockedRead, LockedWrite, Unlock, Ask, MasterRead, MasterWrite, Give, Snoop, Flush}
 use Rattle.calls.specs.declared.call.Cargo.{Cargo}
 use Rattle.calls.specs.declared.call.Cargo.TheVariants.{Nothing, Word, Store}
 use Rattle.calls.specs.Calls.{cargo_of}
+use Rattle.calls.specs.Words.{most_bytes}
 
 -- A list word of that kind, lanes and word.
 abbrev pub packed : ℕ → ℕ → ℕ → ℕ
-packed kind lanes word = kind * 268435456 + lanes * 8388608 + word
+packed kind lanes word = kind * 2 ^ 28 + lanes * 2 ^ 23 + word
 
 -- The kind of each call, in bits 31 to 28 of its list word.
 abbrev pub kind_for : Call → ℕ
@@ -44,7 +45,7 @@ list_words (call ∷ calls) = call_words call ++ list_words calls
 -- The bytes of list words, the low byte first.
 unfoldable pub bytes_of : List ℕ → List ℕ
 bytes_of [] = []
-bytes_of (w ∷ ws) = w % 256 ∷ w / 256 % 256 ∷ w / 65536 % 256 ∷ w / 16777216 ∷ bytes_of ws
+bytes_of (w ∷ ws) = w % 2 ^ 8 ∷ w / 2 ^ 8 % 2 ^ 8 ∷ w / 2 ^ 16 % 2 ^ 8 ∷ w / 2 ^ 24 ∷ bytes_of ws
 
 abbrev pub encode : List Call → List ℕ
 encode calls = bytes_of (list_words calls)
@@ -52,8 +53,8 @@ encode calls = bytes_of (list_words calls)
 -- The parts of a call fit their bits.
 abbrev pub CargoFits : Cargo → Type 0
 CargoFits Nothing = Unit {0}
-CargoFits (Word w) = w < 8388608
-CargoFits (Store s) = (s.word < 8388608) × (s.lanes < 4) × (s.value < 65536)
+CargoFits (Word w) = w < 2 ^ 23
+CargoFits (Store s) = (s.word < 2 ^ 23) × (s.lanes < 2 ^ 2) × (s.value < 2 ^ 16)
 
 abbrev pub CallsFit : List Call → Type 0
 CallsFit [] = Unit {0}
@@ -62,6 +63,6 @@ CallsFit (call ∷ calls) = CargoFits (cargo_of call) × CallsFit calls
 -- A list and its calls determine each other.
 pub record ListEncodesItsCalls (bytes : List ℕ) (read : Result (List Call) Fault) : Type 0 where
   -- an encoded list of allowed length is read back as its calls
-  pub encoded : (calls : List Call) → CallsFit calls → bytes ≡ encode calls → length bytes ≤ 16384 → read ≡ Ok calls
+  pub encoded : (calls : List Call) → CallsFit calls → bytes ≡ encode calls → length bytes ≤ most_bytes → read ≡ Ok calls
   -- a list that is read is the encoding of its calls
   pub decoded : (calls : List Call) → read ≡ Ok calls → CallsFit calls × (bytes ≡ encode calls)

@@ -7,7 +7,7 @@ use Rattle.calls.specs.declared.call.Call.{Call}
 use Rattle.calls.specs.declared.call.Call.TheVariants.{Read, Write as Post, Unposted, Advance, Lock, LockedRead, LockedWrite, Unlock, Ask, MasterRead, MasterWrite, Give, Snoop, Flush}
 use Rattle.port.specs.declared.Store.{Store}
 use Rattle.calls.specs.Calls.{size_of}
-use Rattle.calls.specs.Words.{words, words_from}
+use Rattle.calls.specs.Words.{most_bytes, words, words_from}
 
 -- The number in the bits of w from low on, count of them.
 abbrev pub bits : ℕ → ℕ → ℕ → ℕ
@@ -112,10 +112,10 @@ calls_from i [] = Ok []
 calls_from i (w ∷ []) = followed (front i (w ∷ [])) (Ok []) (Ok [])
 calls_from i (w ∷ v ∷ vs) = followed (front i (w ∷ v ∷ vs)) (calls_from (i + 1) (v ∷ vs)) (calls_from (i + 2) vs)
 
--- A list has whole words and at most 16,384 bytes.
+-- A list has whole words, and no more than the most bytes.
 abbrev pub length_in : ℕ → Result (Unit {0}) Fault
 length_in n =
-    cond (n % 4 == 0) (cond (nat_le n 16384) (Ok tt) (Err unfit_length)) (Err unfit_length)
+    cond (n % 4 == 0) (cond (nat_le n most_bytes) (Ok tt) (Err unfit_length)) (Err unfit_length)
 
 -- What stands at index i of a list: a call, nothing at the end, or a refusal.
 abbrev pub next_in : ℕ → List ℕ → Result (Option Call) Fault

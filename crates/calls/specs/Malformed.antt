@@ -1,10 +1,10 @@
 -- Which word of a list is the first malformed one, said by the list words of calls alone, and the law that a list is refused there.
-use Rattle.std.specs.Prelude.{◌≡◌, ℕ, ◌+◌, ◌%◌, ◌<◌, ◌≤◌, ◌⊎◌, List, [], ◌∷◌, ◌++◌, length, Err, Result}
+use Rattle.std.specs.Prelude.{◌≡◌, ℕ, ◌+◌, ◌%◌, ◌<◌, ◌≤◌, ◌⊎◌, List, [], ◌∷◌, ◌++◌, length, Err, Result, ◌^◌, ◌-◌}
 use Rattle.fault.specs.declared.Fault.{Fault}
 use Rattle.fault.specs.declared.Refusal.TheVariants.{ListLength, ListWord}
 use Rattle.calls.specs.declared.call.Call.{Call}
 use Rattle.calls.specs.Calls.{cargo_of}
-use Rattle.calls.specs.Words.{words}
+use Rattle.calls.specs.Words.{most_bytes, words}
 use Rattle.calls.specs.Encoding.{packed, call_words, list_words, CargoFits, CallsFit}
 
 -- No call is written with this word first.
@@ -23,7 +23,7 @@ NoData (word ∷ after) = word < packed 15 0 0
 -- A data word follows with more in it than a value: it is above the largest that a call is written with.
 abbrev pub BadData : List ℕ → Type 0
 BadData [] = ⊥
-BadData (word ∷ after) = packed 15 0 65535 < word
+BadData (word ∷ after) = packed 15 0 (2 ^ 16 - 1) < word
 
 -- The first of these words is malformed: no call has it first, or it is a storing call's and no data word follows.
 abbrev pub BadCallWord : List ℕ → Type 0
@@ -43,9 +43,9 @@ pub record FirstMalformed (ws : List ℕ) (i : ℕ) : Type 0 where
   pub split : ws ≡ list_words calls ++ rest
   pub place : (BadCallWord rest × (i ≡ length (list_words calls))) ⊎ (BadDataWord rest × (i ≡ length (list_words calls) + 1))
 
--- A list has whole words and at most 16,384 bytes.
+-- A list has whole words, and no more than the most bytes.
 abbrev pub LengthFits : List ℕ → Type 0
-LengthFits bytes = (length bytes % 4 ≡ 0) × (length bytes ≤ 16384)
+LengthFits bytes = (length bytes % 4 ≡ 0) × (length bytes ≤ most_bytes)
 
 -- What is wrong with a list: its length, or where that fits, its first malformed word.
 abbrev pub WrongWith : List ℕ → Fault → Type 0

@@ -1,8 +1,12 @@
 -- The 32-bit words of a list, four bytes each, the low byte first.
-use Rattle.std.specs.Prelude.{ℕ, ◌+◌, ◌*◌, List, [], ◌∷◌, drop}
+use Rattle.std.specs.Prelude.{ℕ, ◌+◌, ◌*◌, List, [], ◌∷◌, drop, ◌^◌}
+
+-- The most bytes of a list.
+abbrev pub most_bytes : ℕ
+most_bytes = 2 ^ 14
 
 abbrev pub word_of : ℕ → ℕ → ℕ → ℕ → ℕ
-word_of a b c d = a + b * 256 + c * 65536 + d * 16777216
+word_of a b c d = a + b * 2 ^ 8 + c * 2 ^ 16 + d * 2 ^ 24
 
 -- all words of a list; fewer than four bytes at its end make none
 unfoldable pub words : List ℕ → List ℕ

@@ -5,8 +5,8 @@ use Rattle.fault.specs.declared.Refusal.{Refusal}
 use Rattle.calls.specs.declared.call.Call.{Call}
 use Rattle.port.specs.declared.Store.{Store}
 use Rattle.port.specs.declared.Port.{Ghosts}
-use Rattle.port.specs.Meaning.{write_answer, waiting_answer, ByAnswer}
-use Rattle.port.specs.Steps.{writes, advances, done, then, Drains, empty, more}
+use Rattle.port.specs.Meaning.{waiting_answer, ByAnswer}
+use Rattle.port.specs.Steps.{writes, advances, done, then, Drains, empty, more, Through}
 use Rattle.write_buffer.specs.declared.buffer.WriteBuffer.{WriteBuffer}
 use Rattle.write_buffer.specs.Queues.{queued}
 use Rattle.write_buffer.specs.Runs.{NothingIsLost}
@@ -17,7 +17,7 @@ use Rattle.port.proofs.Chains.{chain_append}
 use Rattle.book.specs.declared.answer.Mode.{Mode}
 use Rattle.book.specs.declared.answer.Answer.{Answer}
 use Rattle.book.specs.Tables.{stop, Asks, nothing, drain, advance, flush, read, peek, snoop, write, through, outside, deed}
-use Rattle.book.specs.Calling.{Through, Makes, MakesBy, Reaches}
+use Rattle.book.specs.Calling.{Makes, MakesBy, Reaches}
 use Rattle.book.specs.Runs.{Moment}
 use Rattle.book.specs.Promise.{CallsMade, none_made, one_more, NeverAnOldDigit}
 use Rattle.card.specs.Stages.{buffer_ghosts, Pile, pile_state, pile_ghosts, Fresh, Reached, RunOnTheStages}
@@ -38,8 +38,8 @@ module _ {P : Type 0} (G : Ghosts P) where
   wrote_reached w p m q (Ok x) h d = both_reached p m q (record { calls = writes w (Ok x) ∷ []; chain = then h done }) (drains_reached m q d)
   wrote_reached w p m q (Err e) h d = both_reached p m q (record { calls = writes w (Err e) ∷ []; chain = then h done }) (same_reached m q d)
 
-  through_reached : (w : Store) (p q : P) → Through G w p q → Reached G.does p q
-  through_reached w p q t = wrote_reached w p t.between q (write_answer (G.state p) w) t.wrote t.drains
+  through_reached : (w : Store) (r : Result (Unit {0}) Fault) (p q : P) → Through G.state G.does w r p q → Reached G.does p q
+  through_reached w r p q t = wrote_reached w p t.between q r t.wrote t.drains
 
   asked_reached : (a : Asks) (p q : P) → MakesBy G a p q → Reached G.does p q
   asked_reached nothing p q h = same_reached p q h
@@ -50,7 +50,7 @@ module _ {P : Type 0} (G : Ghosts P) where
   asked_reached (peek w) p q h = same_reached p q h
   asked_reached (snoop w) p q h = record { calls = _; chain = h }
   asked_reached (write s) p q h = record { calls = _; chain = h }
-  asked_reached (through s) p q h = through_reached s p q h
+  asked_reached (through s) p q h = through_reached s _ p q h
   asked_reached (outside s) p q h = record { calls = _; chain = h }
 
   called_reached : (o : Option Refusal) (c : Call) (p q : P) → Reaches o (Makes G c p q) (q ≡ p) → Reached G.does p q
@@ -93,5 +93,5 @@ module _ {P : Type 0} {G : Ghosts P} where
         handed = handed;
         promise = promise;
         counted = counted;
-        reached = subst₂ (Reached G.does) fresh.memory_below handed (record { calls = bottom.calls; chain = bottom.chain });
+        reached = subst₂ (Reached G.does) fresh.memory_below handed (record { calls = bottom.gets.calls; chain = bottom.gets.chain });
       }

@@ -1,19 +1,19 @@
 -- What a run leaves of the caller's records.
-use Rattle.std.proofs.Common.{◌≡◌, ℕ, zero, suc, ◌-◌, ◌*◌, ◌<◌, Bool, true, false, cond, ltb, List, [], ◌∷◌, length, get_or, set, Ok, Err, MatchBool, Result, sym, refl, ap, ◌∙◌, subst, ap₂, subst₂, arith, length-set, lt-ltb}
+use Rattle.std.proofs.Common.{◌≡◌, ℕ, zero, suc, ◌-◌, ◌*◌, ◌<◌, Bool, true, false, cond, ltb, List, [], ◌∷◌, length, get_or, set, Ok, Err, Result, sym, refl, ap, ◌∙◌, subst, ap₂, subst₂, arith, length-set, lt-ltb}
 use Rattle.std.specs.Result.{result_and}
 use Rattle.fault.specs.declared.Fault.{Fault}
 use Rattle.calls.specs.declared.call.Call.{Call}
 use Rattle.port.specs.declared.Store.{Store}
-use Rattle.port.specs.Memory.{State, line_of, raised}
+use Rattle.port.specs.Memory.{State, line_of, raised, place_of}
 use Rattle.port.specs.Steps.{Step, reads, writes, advances, outsides, snoops, flushes, Chain, done, then, Drains, empty, more}
 use Rattle.write_buffer.specs.Buffering.{buffered}
 use Rattle.banks.specs.declared.line.Line.{Line}
 use Rattle.banks.specs.declared.ram.RamBank.{RamBank}
 use Rattle.banks.specs.declared.eprom.EpromBank.{EpromBank}
 use Rattle.banks.specs.Sizes.{unfit, fit_lines, size_of_lines, words_of_lines}
-use Rattle.banks.specs.Lines.{line_at, place_of, memory_of, changed}
+use Rattle.banks.specs.Lines.{line_at, memory_of, changed}
 use Rattle.banks.specs.Ram.{RamWritten, RamDoes}
-use Rattle.joined_map.specs.Steps.{Posted}
+use Rattle.joined_map.specs.Runs.{EachSideGetsItsOwn}
 use Rattle.book.specs.declared.answer.Answer.{Answer}
 use Rattle.card.specs.Stages.{pile_state, Reached, RunOnTheStages}
 use Rattle.card.specs.Card.{card_size, unless_unfit, ram_ghosts, eprom_ghosts, CardMemory, memory_ghosts, first_state, OnlyWordsDiffer, CardKeepsItsPromise}
@@ -53,21 +53,21 @@ written_differ ls w false =
 
 -- THROUGH THE BANK AND THE MAP
 
-abbrev Kept : RamBank → RamBank → Type 0
-Kept b c = OnlyWordsDiffer b.lines.now c.lines.now × (c.lines.ghost_name ≡ b.lines.ghost_name)
+abbrev WordsAlone : RamBank → RamBank → Type 0
+WordsAlone b c = OnlyWordsDiffer b.lines.now c.lines.now × (c.lines.ghost_name ≡ b.lines.ghost_name)
 
-same_kept : (b c : RamBank) → c ≡ b → Kept b c
-same_kept b c e = subst (λ (x : RamBank). Kept b x) (sym e) (none_differ b.lines.now, refl)
+same_kept : (b c : RamBank) → c ≡ b → WordsAlone b c
+same_kept b c e = subst (λ (x : RamBank). WordsAlone b x) (sym e) (none_differ b.lines.now, refl)
 
-both_kept : (p q r : RamBank) → Kept p q → Kept q r → Kept p r
+both_kept : (p q r : RamBank) → WordsAlone p q → WordsAlone q r → WordsAlone p r
 both_kept p q r a b = (both_differ _ _ _ a.0 b.0, b.1 ∙ a.1)
 
-written_kept : (b c : RamBank) (w : Store) (r : Result (Unit {0}) Fault) → RamWritten b w r c → Kept b c
+written_kept : (b c : RamBank) (w : Store) (r : Result (Unit {0}) Fault) → RamWritten b w r c → WordsAlone b c
 written_kept b c w (Ok x) h =
     (subst (λ (ls : List Line). OnlyWordsDiffer b.lines.now ls) (sym h.records) (written_differ b.lines.now w (line_at b.lines.now (line_of w.word)).protect), h.caller)
 written_kept b c w (Err e) h = same_kept b c h
 
-ram_kept : (b c : RamBank) (d : Step) → RamDoes b d c → Kept b c
+ram_kept : (b c : RamBank) (d : Step) → RamDoes b d c → WordsAlone b c
 ram_kept b c (reads w r) h = same_kept b c h
 ram_kept b c (writes w r) h = written_kept b c w r h
 ram_kept b c advances h = same_kept b c h
@@ -96,40 +96,17 @@ bytes_below b m bs h e = ap (λ (x : EpromBank). x.bytes.now) (eprom_idle b m.hi
 pub handed_back : (b : RamBank) (m : CardMemory) (ls : List Line) → b ≡ m.low → ls ≡ b.lines.now → m.low.lines.now ≡ ls
 handed_back b m ls e h = sym (h ∙ ap (λ (x : RamBank). x.lines.now) e)
 
-drains_kept : (p q : RamBank) → Drains ram_ghosts.state ram_ghosts.does p q → Kept p q
-drains_kept p q h = same_kept p q (ram_idle p q h)
+ram_chain_kept : (b c : RamBank) (ds : List Step) → Chain RamDoes b ds c → WordsAlone b c
+ram_chain_kept b _ _ done = (none_differ b.lines.now, refl)
+ram_chain_kept b _ _ (then {q = m} {r = c} {d = d} {ds = ds} h rest) = both_kept b m c (ram_kept b m d h) (ram_chain_kept m c ds rest)
 
-posted_kept : (p q : RamBank) (w : Store) → Posted ram_ghosts.state ram_ghosts.does p w q → Kept p q
-posted_kept p q w h = both_kept p h.between q (ram_kept p h.between (writes w (Ok tt)) h.posts) (drains_kept h.between q h.drains)
+-- What a map does to its low side, it does by calls of it.
+chain_kept : EachSideGetsItsOwn ram_ghosts eprom_ghosts → (b c : CardMemory) (ds : List Step) → Chain memory_ghosts.does b ds c → WordsAlone b.low c.low
+chain_kept own b c ds chain = ram_chain_kept b.low c.low (own b c ds chain).0.calls (own b c ds chain).0.chain
 
-either : (t : Bool) (A B C : Type 0) → (A → C) → (B → C) → MatchBool t A B → C
-either true A B C f g h = f h
-either false A B C f g h = g h
-
-step_kept : (b c : CardMemory) (d : Step) → memory_ghosts.does b d c → Kept b.low c.low
-step_kept b c (reads w r) h =
-    either (ltb w (memory_ghosts.state b).facts.words) _ _ _
-    (either (ltb w (ram_ghosts.state b.low).facts.words) _ _ _ (λ s. ram_kept b.low c.low (reads w r) s.0) (λ s. same_kept b.low c.low s.0))
-    (λ e. same_kept b.low c.low (ap (λ (x : CardMemory). x.low) e)) h
-step_kept b c (writes w (Ok x)) h =
-    either (ltb w.word (ram_ghosts.state b.low).facts.words) _ _ _ (λ s. posted_kept b.low c.low w s.0) (λ s. drains_kept b.low c.low s.0) h
-step_kept b c (writes w (Err e)) h = same_kept b.low c.low (ap (λ (x : CardMemory). x.low) h)
-step_kept b c advances h = ram_kept b.low c.low advances h.0
-step_kept b c (outsides w (Ok x)) h =
-    either (ltb w.word (ram_ghosts.state b.low).facts.words) _ _ _ (λ s. ram_kept b.low c.low (outsides w (Ok tt)) s.0) (λ s. same_kept b.low c.low s.0) h
-step_kept b c (outsides w (Err e)) h = same_kept b.low c.low (ap (λ (x : CardMemory). x.low) h)
-step_kept b c (snoops w (Ok x)) h =
-    either (ltb w (ram_ghosts.state b.low).facts.words) _ _ _ (λ s. ram_kept b.low c.low (snoops w (Ok tt)) s.0) (λ s. same_kept b.low c.low s.0) h
-step_kept b c (snoops w (Err e)) h = same_kept b.low c.low (ap (λ (x : CardMemory). x.low) h)
-step_kept b c flushes h = ram_kept b.low c.low flushes h.0
-
-chain_kept : (b c : CardMemory) (ds : List Step) → Chain memory_ghosts.does b ds c → Kept b.low c.low
-chain_kept b _ _ done = (none_differ b.low.lines.now, refl)
-chain_kept b _ _ (then {q = m} {r = c} {d = d} {ds = ds} h rest) = both_kept b.low m.low c.low (step_kept b m d h) (chain_kept m c ds rest)
-
-pub names_kept : (b r : RamBank) (m n : CardMemory) → Drains ram_ghosts.state ram_ghosts.does b m.low → Reached memory_ghosts.does m n → r ≡ n.low → r.lines.ghost_name ≡ b.lines.ghost_name
-names_kept b r m n d h e =
-    ap (λ (x : RamBank). x.lines.ghost_name) e ∙ (chain_kept m n h.calls h.chain).1 ∙ ap (λ (x : RamBank). x.lines.ghost_name) (ram_idle b m.low d)
+pub names_kept : (b r : RamBank) (m n : CardMemory) → EachSideGetsItsOwn ram_ghosts eprom_ghosts → Drains ram_ghosts.state ram_ghosts.does b m.low → Reached memory_ghosts.does m n → r ≡ n.low → r.lines.ghost_name ≡ b.lines.ghost_name
+names_kept b r m n own d h e =
+    ap (λ (x : RamBank). x.lines.ghost_name) e ∙ (chain_kept own m n h.calls h.chain).1 ∙ ap (λ (x : RamBank). x.lines.ghost_name) (ram_idle b m.low d)
 
 pub name_kept : (b r : RamBank) (m n : CardMemory) → Drains ram_ghosts.state ram_ghosts.does b m.low → n ≡ m → r ≡ n.low → r.lines.ghost_name ≡ b.lines.ghost_name
 name_kept b r m n d h e =
@@ -151,10 +128,10 @@ ran_fits (Ok ds) (Err fault) cs e = let z : ◌≡◌ {A = ℕ} 0 1 = cc in absu
 ran_fits (Err fault) size cs e = let z : ◌≡◌ {A = ℕ} 0 1 = cc in absurd (omega arith)
 
 module _ (before after : List Line) (image : List ℕ) (memory left : CardMemory) (cs : List Call) (rs : List (Result Answer Fault)) (waiting : ℕ)
-    (low : memory.low.lines.now ≡ before) (high : memory.high.bytes.now ≡ image) (handed : left.low.lines.now ≡ after)
+    (own : EachSideGetsItsOwn ram_ghosts eprom_ghosts) (low : memory.low.lines.now ≡ before) (high : memory.high.bytes.now ≡ image) (handed : left.low.lines.now ≡ after)
     (run : RunOnTheStages memory_ghosts memory cs rs waiting left) where
   others : OnlyWordsDiffer before after
-  others = subst₂ OnlyWordsDiffer low handed (chain_kept memory left run.reached.calls run.reached.chain).0
+  others = subst₂ OnlyWordsDiffer low handed (chain_kept own memory left run.reached.calls run.reached.chain).0
 
   begins : pile_state memory_ghosts run.made ≡ first_state before image
   begins =
@@ -184,8 +161,8 @@ module _ (before after : List Line) (image : List ℕ) (memory left : CardMemory
 
 -- The calls that are run are those of the list, as a slice of them shows.
 pub promise_kept : (before after : List Line) (image : List ℕ) (memory left : CardMemory) (cs ds : List Call) (rs : List (Result Answer Fault)) (waiting : ℕ) (list : Result (List Call) Fault)
-    → memory.low.lines.now ≡ before → memory.high.bytes.now ≡ image → left.low.lines.now ≡ after
+    → EachSideGetsItsOwn ram_ghosts eprom_ghosts → memory.low.lines.now ≡ before → memory.high.bytes.now ≡ image → left.low.lines.now ≡ after
     → RunOnTheStages memory_ghosts memory ds rs waiting left → ds ≡ cs → unless_unfit list (card_size (length before) (length image)) ≡ Ok cs
     → CardKeepsItsPromise before image cs rs waiting after
-promise_kept before after image memory left cs ds rs waiting list low high handed run same e =
-    card_keeps before after image memory left cs rs waiting low high handed (subst (λ xs. RunOnTheStages memory_ghosts memory xs rs waiting left) same run) list e
+promise_kept before after image memory left cs ds rs waiting list own low high handed run same e =
+    card_keeps before after image memory left cs rs waiting own low high handed (subst (λ xs. RunOnTheStages memory_ghosts memory xs rs waiting left) same run) list e

@@ -8,7 +8,8 @@ use Rattle.directory.specs.declared.marks.WayNumber.TheVariants.{Zero, One, Two,
 use Rattle.directory.specs.declared.sets.Way.{Way}
 use Rattle.directory.specs.Touch.{index_of, same_way, every_way}
 use Rattle.directory.specs.Sets.{filled_way, worded_way, has_tag}
-use Rattle.directory.specs.Dirs.{Dir, set_of, tag_of, line_of, place_of, emptied, put, holds, found, installed, dropped_of, dropped, changed, twin_ways}
+use Rattle.directory.specs.Dirs.{Dir, set_of, tag_of, emptied, put, holds, found, installed, dropped_of, dropped, changed, twin_ways}
+use Rattle.port.specs.Memory.{line_of, place_of}
 use Rattle.directory.specs.Laws.{TagsAreApart, OneWayHoldsALine, InstallKeepsOtherLines, DropForgetsOneLine, ChangeMovesNoLine}
 use Rattle.directory.proofs.Numbering.{index_injective}
 

@@ -4,7 +4,8 @@ use Rattle.std.specs.Option.{option_map}
 use Rattle.directory.specs.declared.marks.WayNumber.{WayNumber}
 use Rattle.directory.specs.declared.sets.SetRecord.{SetRecord}
 use Rattle.directory.specs.Sets.{no_set, filled_way, worded_way, way_in, touched_set, put_set, installed_set}
-use Rattle.directory.specs.Dirs.{Dir, set_of, tag_of, line_of, place_of, view_of, put, touched, installed, dropped, changed, found}
+use Rattle.directory.specs.Dirs.{Dir, set_of, tag_of, view_of, put, touched, installed, dropped, changed, found}
+use Rattle.port.specs.Memory.{line_of, place_of}
 use Rattle.directory.specs.Laws.{TagsAreApart, InstallKeepsOtherLines, DropForgetsOneLine, ChangeMovesNoLine}
 use Rattle.directory.proofs.Views.{view_touched, view_put, view_installed}
 use Rattle.directory.proofs.Apart.{install_keeps, drop_forgets, change_moves_none}

@@ -8,8 +8,8 @@ use Rattle.std.proofs.lemmas.Bool.Decides.{Decides-below_and}
 use Rattle.std.proofs.lemmas.Bool.{or_cases, eqb-true, eq-eqb, ltb-true, both_ways, not_from_true, cases_eq, ne_eqb, cond-true, cond-false, and_from, and_left, or_right}
 use Rattle.directory.specs.declared.marks.WayNumber.{WayNumber}
 use Rattle.directory.specs.declared.fills.Fill.{Fill}
-use Rattle.directory.specs.Dirs.{line_of, place_of}
-use Rattle.directory.specs.Ticks.{ticked, tick, place_at, ticks_after, next_place, next_word, fetched_word, starting, stored, Ordered, UnderWay}
+use Rattle.port.specs.Memory.{line_of, place_of}
+use Rattle.directory.specs.Ticks.{ticked, tick, place_at, ticks_after, next_place, next_word, fetched_word, starting, with_word, Ordered, UnderWay}
 use Rattle.directory.specs.Laws.{FillVisitsEachPlaceOnce, NewTickAddsOne, StoreAddsItsWord, EightTicksAreAll}
 
 -- the test p passes at each number below n
@@ -107,10 +107,10 @@ module _ (b : Fill) (u : UnderWay b) where
   pub next_small : next_place b < 8
   next_small = within b.first (ones b.ticks) u.ordered.place u.short
 
-  pub stored_count : (value : ℕ) → ones (stored b value).ticks ≡ ones b.ticks + 1
+  pub stored_count : (value : ℕ) → ones (with_word b value).ticks ≡ ones b.ticks + 1
   stored_count value = rw add-one next_ones
 
-  pub stored_ordered : (value : ℕ) → Ordered (stored b value)
+  pub stored_ordered : (value : ℕ) → Ordered (with_word b value)
   stored_ordered value = record {
     low = u.ordered.low;
     place = u.ordered.place;
@@ -124,7 +124,7 @@ module _ (b : Fill) (u : UnderWay b) where
       ∙ ticked_more b.first (ones b.ticks) q u.ordered.place u.short h
       ∙ ap (λ (t : ℕ). ticked t q || eqb q (next_place b)) (sym u.ordered.order)
 
-  pub store_adds : (value : ℕ) → StoreAddsItsWord b (stored b value) value
+  pub store_adds : (value : ℕ) → StoreAddsItsWord b (with_word b value) value
   store_adds value = record {
     new =
         cond-true (eqb b.line (line_of (next_word b)) && ticked (tick b.ticks (next_place b)) (place_of (next_word b))) _ None
@@ -135,7 +135,7 @@ module _ (b : Fill) (u : UnderWay b) where
     others = other;
   }
     where
-      other : (word : ℕ) → word ≢ next_word b → fetched_word (stored b value) word ≡ fetched_word b word
+      other : (word : ℕ) → word ≢ next_word b → fetched_word (with_word b value) word ≡ fetched_word b word
       other word n =
           elim (cases_eq b.line (line_of word)) [
             | inr away ↦
@@ -164,7 +164,7 @@ module _ (b : Fill) (u : UnderWay b) (p value : ℕ) (e : p ≡ next_place b) (h
   byte : bit_or b.ticks ((1 * 2 ^ p) % 256) ≡ tick b.ticks (next_place b)
   byte = ap (λ (x : ℕ). bit_or b.ticks x) (one_shl p 8 h ∙ ap (λ (x : ℕ). 2 ^ x) e)
 
-  pub left_stored : left b p value ≡ stored b value
+  pub left_stored : left b p value ≡ with_word b value
   left_stored = λ n. record {
     line = b.line;
     first = b.first;

@@ -1,6 +1,7 @@
 -- The directory as it can be asked for, by set and way.
 use Rattle.std.specs.Prelude.{ℕ, zero, suc, ◌+◌, ◌/◌, ◌%◌, Bool, false, cond, not, ◌&&◌, List, Some, None, is_some, find, count_by, Option, ◌==◌, slice_index_or}
 use Rattle.std.specs.Option.{option_map}
+use Rattle.port.specs.Memory.{line_of, place_of}
 use Rattle.directory.specs.declared.marks.Marks.{Marks}
 use Rattle.directory.specs.declared.marks.WayNumber.{WayNumber}
 use Rattle.directory.specs.declared.sets.Way.{Way}
@@ -8,18 +9,15 @@ use Rattle.directory.specs.declared.sets.SetRecord.{SetRecord}
 use Rattle.directory.specs.Touch.{same_way, every_way, no_marks, touched_marks}
 use Rattle.directory.specs.Sets.{no_set, filled_way, worded_way, way_in, has_tag}
 
--- A line is eight words; it belongs to one set, and its tag tells it from the other lines of that set.
-abbrev pub line_of : ℕ → ℕ
-line_of word = word / 8
-
-abbrev pub place_of : ℕ → ℕ
-place_of word = word % 8
+-- How many sets there are. A line belongs to one of them, and its tag tells it from the other lines of that set.
+abbrev pub number_of_sets : ℕ
+number_of_sets = 256
 
 abbrev pub set_of : ℕ → ℕ
-set_of line = line % 256
+set_of line = line % number_of_sets
 
 abbrev pub tag_of : ℕ → ℕ
-tag_of line = line / 256
+tag_of line = line / number_of_sets
 
 -- All that can be asked of a directory: what each way of a set holds, and the marks of the set. A way is valid where it holds something.
 pub record Dir : Type 0 where
@@ -83,4 +81,4 @@ abbrev pub valid_in : Dir → ℕ → ℕ
 valid_in d i = count_by (λ k. is_some (d.way i k)) every_way
 
 abbrev pub valid_ways : Dir → ℕ
-valid_ways d = sum_below (valid_in d) 256
+valid_ways d = sum_below (valid_in d) number_of_sets

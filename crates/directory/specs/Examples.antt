@@ -4,13 +4,14 @@ use Rattle.directory.specs.declared.marks.WayNumber.{WayNumber}
 use Rattle.directory.specs.declared.marks.WayNumber.TheVariants.{Zero, One, Two, Three}
 use Rattle.directory.specs.declared.fills.Fill.{Fill}
 use Rattle.directory.specs.Touch.{victim_of}
-use Rattle.directory.specs.Dirs.{Dir, line_of, place_of, set_of, tag_of, emptied, installed}
-use Rattle.directory.specs.Ticks.{next_place, starting, stored}
+use Rattle.directory.specs.Dirs.{Dir, set_of, tag_of, emptied, installed}
+use Rattle.port.specs.Memory.{line_of, place_of}
+use Rattle.directory.specs.Ticks.{next_place, starting, with_word}
 
 -- The places that a fill fetches, one step after another.
 abbrev pub places : Fill → ℕ → List ℕ
 places b zero = []
-places b (suc steps) = next_place b ∷ places (stored b 0) steps
+places b (suc steps) = next_place b ∷ places (with_word b 0) steps
 
 -- The ways that lines go into, each into the victim of its moment.
 abbrev pub ways_taken : Dir → List ℕ → List WayNumber

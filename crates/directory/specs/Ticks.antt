@@ -2,7 +2,7 @@
 use Rattle.std.specs.Prelude.{◌≡◌, ℕ, zero, suc, ◌+◌, ◌*◌, ◌/◌, ◌%◌, ◌^◌, ◌<◌, Bool, cond, ◌&&◌, length, replicate, Some, None, Option, ◌==◌, bit_or, bit_xor, count_ones, slice_index, slice_set}
 use Rattle.directory.specs.declared.marks.WayNumber.{WayNumber}
 use Rattle.directory.specs.declared.fills.Fill.{Fill}
-use Rattle.directory.specs.Dirs.{line_of, place_of}
+use Rattle.port.specs.Memory.{line_of, place_of}
 
 -- The place has been fetched: its bit of the tick record is set.
 abbrev pub ticked : ℕ → ℕ → Bool
@@ -36,8 +36,8 @@ starting word way protect =
     record { line = line_of word; first = place_of word; way = way; protect = protect; ticks = 0; words = replicate 8 0 }
 
 -- The next word has come.
-abbrev pub stored : Fill → ℕ → Fill
-stored b value = record {
+abbrev pub with_word : Fill → ℕ → Fill
+with_word b value = record {
   line = b.line;
   first = b.first;
   way = b.way;

@@ -1,6 +1,6 @@
 //! The line buffer: a fill under way, fetched word by word.
 ghost use Rattle.std.specs.Prelude.{◌≡◌, ℕ, ◌+◌, ◌<◌, ◌≤◌, count_ones};
-ghost use Rattle.directory.specs.Ticks.{ticked, next_place, next_word, complete, starting, stored, fetched_word, Ordered, UnderWay};
+ghost use Rattle.directory.specs.Ticks.{ticked, next_place, next_word, complete, starting, with_word, fetched_word, Ordered, UnderWay};
 ghost use Rattle.directory.specs.Laws.{FillVisitsEachPlaceOnce, NewTickAddsOne, StoreAddsItsWord, EightTicksAreAll};
 
 use super::marks::WayNumber;
@@ -86,7 +86,7 @@ impl Fill {
     /// Takes the value of the word that was fetched next, and ticks its place.
     pub fn store(&mut self, value: u16)
         requires { UnderWay self.old }
-        ensures after { self.new ≡ stored self.old value }
+        ensures after { self.new ≡ with_word self.old value }
         ensures sound { Ordered self.new }
         ensures count { count_ones self.new.ticks ≡ count_ones self.old.ticks + 1 }
         ensures adds { StoreAddsItsWord self.old self.new value }

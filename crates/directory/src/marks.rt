@@ -103,7 +103,7 @@ const M111: Marks = Marks {
 };
 
 // The marks after a touch, 32 entries: a row for each setting, in the order of `number`, and in it one for each way.
-const TOUCHED: [[Marks; 4]; 8] = [
+static TOUCHED: [[Marks; 4]; 8] = [
     [M110, M100, M001, M000], // M000
     [M110, M100, M001, M000], // M100
     [M110, M100, M011, M010], // M010

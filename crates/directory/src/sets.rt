@@ -2,7 +2,7 @@
 ghost use Rattle.std.specs.Prelude.{◌≡◌, ℕ, ◌≤◌, length, Some, None, find, is_some, count_by};
 ghost use Rattle.std.specs.Option.{option_map};
 ghost use Rattle.directory.specs.Touch.{every_way};
-ghost use Rattle.directory.specs.Dirs.{place_of};
+ghost use Rattle.port.specs.Memory.{place_of};
 ghost use Rattle.directory.specs.Sets.{way_in, has_tag, touched_set, put_set, installed_set, worded_way};
 
 use super::marks::{Marks, NO_MARKS, WAYS, WayNumber};

@@ -1,46 +1,32 @@
 -- Each side of a map gets its own.
-use Rattle.std.proofs.Common.{◌≡◌, ℕ, ◌-◌, Bool, true, false, cond, not, List, [], ◌∷◌, ◌++◌, Ok, Err, Result, refl, ◌∙◌, ap₂}
+use Rattle.std.proofs.Common.{◌≡◌, ℕ, ◌-◌, Bool, true, false, cond, not, List, [], ◌∷◌, Ok, Err, Result, refl}
 use Rattle.std.specs.Prelude.{MatchBool, nat_lt}
-use Rattle.std.proofs.lemmas.List.Concat.{flat_map-append}
 use Rattle.fault.specs.declared.Fault.{Fault}
 use Rattle.port.specs.declared.Port.{Ghosts}
 use Rattle.port.specs.declared.Store.{Store}
 use Rattle.port.specs.Memory.{State}
-use Rattle.port.specs.Steps.{Step, reads, writes, advances, outsides, snoops, flushes, done, then, Drains, empty, more}
-use Rattle.port.proofs.Chains.{chain_append}
+use Rattle.port.specs.Steps.{Step, reads, writes, advances, outsides, snoops, flushes, done, then, Drains, empty, more, Through, asked, Gets}
+use Rattle.port.proofs.Chains.{gets_none, gets_one, gets_then}
 use Rattle.joined_map.specs.declared.JoinedMap.{JoinedMap}
 use Rattle.joined_map.specs.Joint.{lowered}
-use Rattle.joined_map.specs.Steps.{Posted, ReadHigh, split, end, MapDoes}
-use Rattle.joined_map.specs.Runs.{low_by, high_by, heard_by, Gets, EachSideGetsItsOwn}
+use Rattle.joined_map.specs.Steps.{ReadHigh, split, end, MapDoes}
+use Rattle.joined_map.specs.Runs.{low_by, high_by, EachSideGetsItsOwn}
 
 -- ---- one side
 
 module _ {P : Type 0} {does : P → Step → P → Type 0} where
-  gets_none : {p q : P} → q ≡ p → Gets does [] p q
-  gets_none e = rw e (record { calls = []; chain = done; heard = refl })
-
-  gets_one : {p q : P} (d : Step) → does p d q → Gets does (heard_by d ++ []) p q
-  gets_one d h = record { calls = d ∷ []; chain = then h done; heard = refl }
-
-  gets_then : {ds es : List Step} {p q r : P} → Gets does ds p q → Gets does es q r → Gets does (ds ++ es) p r
-  gets_then x y = record {
-    calls = x.calls ++ y.calls;
-    chain = chain_append x.chain y.chain;
-    heard = flat_map-append heard_by x.calls y.calls ∙ ap₂ (λ (xs ys : List Step). xs ++ ys) x.heard y.heard;
-  }
-
-  drains_get : {state : P → State} {p q : P} → Drains state does p q → Gets does [] p q
+  drains_get : {state : P → State} {p q : P} → Drains state does p q → Gets does asked [] p q
   drains_get (empty none) = gets_none refl
   drains_get (more waits h rest) = gets_then (gets_one advances h) (drains_get rest)
 
-  posted_gets : {state : P → State} {p q : P} (w : Store) → Posted state does p w q → Gets does (writes w (Ok tt) ∷ []) p q
-  posted_gets w x = gets_then (gets_one (writes w (Ok tt)) x.posts) (drains_get x.drains)
+  through_gets : {state : P → State} {p q : P} (w : Store) → Through state does w (Ok tt) p q → Gets does asked (writes w (Ok tt) ∷ []) p q
+  through_gets w x = gets_then (gets_one (writes w (Ok tt)) x.wrote) (drains_get x.drains)
 
 -- ---- both sides
 
 module _ {L H : Type 0} {l : Ghosts L} {h : Ghosts H} (b c : JoinedMap L H l h) where
   abbrev Both : List Step → List Step → Type 0
-  Both ds es = Gets l.does ds b.low c.low × Gets h.does es b.high c.high
+  Both ds es = Gets l.does asked ds b.low c.low × Gets h.does asked es b.high c.high
 
   untouched : c ≡ b → Both [] []
   untouched e = (gets_none (cc), gets_none (cc))
@@ -61,8 +47,8 @@ module _ {L H : Type 0} {l : Ghosts L} {h : Ghosts H} (b c : JoinedMap L H l h) 
   call_gets (reads w r) x = read_gets w r (nat_lt w (end b)) (nat_lt w (split b)) x
   call_gets (writes w (Ok _)) x =
       by_test (nat_lt w.word (split b)) (writes w (Ok tt)) (writes (lowered (split b) w) (Ok tt)) _ _
-      (λ y. (posted_gets w y.0, drains_get y.1))
-      (λ y. (drains_get y.0, posted_gets (lowered (split b) w) y.1)) x
+      (λ y. (through_gets w y.0, gets_none y.1))
+      (λ y. (gets_none y.0, through_gets (lowered (split b) w) y.1)) x
   call_gets (writes w (Err _)) x = untouched x
   call_gets advances x = (gets_one advances x.0, gets_one advances x.1)
   call_gets (outsides w (Ok _)) x =

@@ -1,7 +1,7 @@
 -- What each side of a map gets in a run of calls.
-use Rattle.std.specs.Prelude.{◌≡◌, ℕ, ◌-◌, Bool, cond, not, List, [], ◌∷◌, ◌++◌, flat_map, Ok, Err, nat_lt}
+use Rattle.std.specs.Prelude.{ℕ, ◌-◌, Bool, cond, not, List, [], ◌∷◌, ◌++◌, Ok, Err, nat_lt}
 use Rattle.port.specs.declared.Port.{Ghosts}
-use Rattle.port.specs.Steps.{Step, reads, writes, advances, outsides, snoops, flushes, Chain, done, then}
+use Rattle.port.specs.Steps.{Step, reads, writes, advances, outsides, snoops, flushes, Chain, done, then, asked, Gets}
 use Rattle.joined_map.specs.declared.JoinedMap.{JoinedMap}
 use Rattle.joined_map.specs.Steps.{split, MapDoes}
 
@@ -31,23 +31,8 @@ module _ {L H : Type 0} {l : Ghosts L} {h : Ghosts H} where
   along by done = []
   along by (then {p = b} {d = d} call rest) = by (split b) d ++ along by rest
 
--- What a side hears of, whatever it answers: all but reads and advances.
-abbrev pub heard_by : Step → List Step
-heard_by (reads w r) = []
-heard_by (writes w r) = writes w r ∷ []
-heard_by advances = []
-heard_by (outsides w r) = outsides w r ∷ []
-heard_by (snoops w r) = snoops w r ∷ []
-heard_by flushes = flushes ∷ []
-
--- Some calls lead from one port to the other, and what is heard in them is these, each once and in order.
-pub record Gets {P : Type 0} (does : P → Step → P → Type 0) (ds : List Step) (p q : P) : Type 0 where
-  pub calls : List Step
-  pub chain : Chain does p calls q
-  pub heard : flat_map heard_by calls ≡ ds
-
 -- However a map is called, each side gets every flush and what was accepted for its own words, each once and in order, and else only
 -- reads and advances.
 abbrev pub EachSideGetsItsOwn : {L H : Type 0} → Ghosts L → Ghosts H → Type 0
 EachSideGetsItsOwn {L} {H} l h = (b c : JoinedMap L H l h) (ds : List Step) (run : Chain MapDoes b ds c) →
-    Gets l.does (along low_by run) b.low c.low × Gets h.does (along high_by run) b.high c.high
+    Gets l.does asked (along low_by run) b.low c.low × Gets h.does asked (along high_by run) b.high c.high

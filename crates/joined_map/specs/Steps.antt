@@ -3,16 +3,9 @@ use Rattle.std.specs.Prelude.{◌≡◌, ℕ, ◌-◌, Ok, Err, MatchBool, Resul
 use Rattle.fault.specs.declared.Fault.{Fault}
 use Rattle.port.specs.declared.Port.{Ghosts}
 use Rattle.port.specs.declared.Store.{Store}
-use Rattle.port.specs.Memory.{State}
-use Rattle.port.specs.Steps.{Step, reads, writes, advances, outsides, snoops, flushes, Drains}
+use Rattle.port.specs.Steps.{Step, reads, writes, advances, outsides, snoops, flushes, Through}
 use Rattle.joined_map.specs.declared.JoinedMap.{JoinedMap}
 use Rattle.joined_map.specs.Joint.{joint_state, shifted, lowered}
-
--- A write, and then advances until none waits.
-pub record Posted {P : Type 0} (state : P → State) (does : P → Step → P → Type 0) (p : P) (w : Store) (q : P) : Type 0 where
-  pub between : P
-  pub posts : does p (writes w (Ok tt)) between
-  pub drains : Drains state does between q
 
 -- A read of the high side, whose fault is shifted.
 pub record ReadHigh {P : Type 0} (does : P → Step → P → Type 0) (by : ℕ) (p : P) (w : ℕ) (r : Result ℕ Fault) (q : P) : Type 0 where
@@ -37,12 +30,10 @@ module _ {L H : Type 0} {l : Ghosts L} {h : Ghosts H} where
       (ToSide b w (l.does b.low (reads w r)) (ReadHigh h.does (split b) b.high w r) c)
       (c ≡ b)
 
-  -- After a write both sides are advanced until nothing waits there.
+  -- A write goes through on its side: when it returns, nothing waits there.
   abbrev pub MapWrites : JoinedMap L H l h → Store → Result (Unit {0}) Fault → JoinedMap L H l h → Type 0
   MapWrites b w (Ok _) c =
-      MatchBool (nat_lt w.word (split b))
-      (Posted l.state l.does b.low w c.low × Drains h.state h.does b.high c.high)
-      (Drains l.state l.does b.low c.low × Posted h.state h.does b.high (lowered (split b) w) c.high)
+      ToSide b w.word (Through l.state l.does w (Ok tt) b.low) (Through h.state h.does (lowered (split b) w) (Ok tt) b.high) c
   MapWrites b w (Err _) c = c ≡ b
 
   abbrev pub MapOutside : JoinedMap L H l h → Store → Result (Unit {0}) Fault → JoinedMap L H l h → Type 0

@@ -1,21 +1,27 @@
 //! A map that puts one port after another.
 #![tactic(auto)]
 
-ghost use Rattle.std.specs.Prelude.{◌≡◌, ◌+◌, ◌/◌, ◌^◌, ◌<◌, IfErr};
-ghost use Rattle.banks.specs.Sizes.{size_of_lines};
-ghost use Rattle.joined_map.specs.Joint.{Still};
+ghost use Rattle.std.specs.Prelude.{◌≡◌, ◌+◌, ◌/◌, ◌%◌, ◌^◌, ◌<◌, IfErr};
+ghost use Rattle.banks.specs.Sizes.{size_of_lines, words_of_lines};
+ghost use Rattle.joined_map.specs.Joint.{Still, joint_floor};
 
 use banks::joint_size;
 use fault::Fault;
-use port::{Port, Store, check_range, check_write, settle_all};
+use port::{Port, Store, check_range, check_write, settle_all, write_through};
 
 /// Two ports as one: the words of the high one come after those of the low one.
 #[derive(Drop)]
 pub struct JoinedMap<L: Port, H: Port> {
     low: L,
     high: H,
+    split: u32,
+    size: u32,
+    level: u8,
     // Nothing waits on either side.
     pub ghost still: { Still (L.state low) (H.state high) },
+    ghost parted: { split ≡ (L.state low).facts.words },
+    ghost sized: { size ≡ words_of_lines (((L.state low).facts.words + (H.state high).facts.words) / 8) },
+    ghost leveled: { level ≡ joint_floor (L.state low).facts.floor (H.state high).facts.floor },
 }
 
 /// How many words a map of these two ports has, or why it has none.
@@ -52,14 +58,29 @@ impl<L: Port, H: Port> JoinedMap<L, H> {
         let mut high = high;
         settle_all(&mut low);
         settle_all(&mut high);
-        JoinedMap { low, high }
+        let size = map_size(&low, &high).unwrap_or(0);
+        let split = low.words();
+        let level = low.floor().max(high.floor()).saturating_add(1);
+        JoinedMap {
+            low,
+            high,
+            split,
+            size,
+            level,
+        }
     }
 
     /// Hands both sides back as they are.
     pub fn into_sides(self) -> (L, H)
         ensures { (result.0 ≡ self.low) × (result.1 ≡ self.high) }
     {
-        let JoinedMap { low, high } = self;
+        let JoinedMap {
+            low,
+            high,
+            split: _,
+            size: _,
+            level: _,
+        } = self;
         (low, high)
     }
 }
@@ -67,6 +88,7 @@ impl<L: Port, H: Port> JoinedMap<L, H> {
 // A call with a word is one match of two arms. The six differ in the call that is made, so one function for all would take two closures on
 // `&mut` sides, and say what each of them did.
 impl<L: Port, H: Port> Port for JoinedMap<L, H> {
+    ghost use Rattle.banks.specs.Whole.{whole_lines};
     ghost use Rattle.joined_map.specs.Joint.{joint_state};
     ghost use Rattle.joined_map.specs.Steps.{MapDoes};
 
@@ -75,16 +97,16 @@ impl<L: Port, H: Port> Port for JoinedMap<L, H> {
     ghost does = { λ b d c. MapDoes b d c };
 
     fn words(&self) -> u32 {
-        map_size(&self.low, &self.high).unwrap_or(0)
+        self.size
     }
 
     fn floor(&self) -> u8 {
-        self.low.floor().max(self.high.floor()).saturating_add(1)
+        self.level
     }
 
     fn marks(&self, line: u32) -> Result<(bool, bool), Fault> {
         check_range(line, self.words() / 8, self.floor())?;
-        let split = self.low.words() / 8;
+        let split = self.split / 8;
         match line.checked_sub(split) {
             None => self.low.marks(line),
             Some(line) => shifted(split, self.high.marks(line)),
@@ -97,7 +119,7 @@ impl<L: Port, H: Port> Port for JoinedMap<L, H> {
 
     fn read(&mut self, word: u32) -> Result<u16, Fault> {
         check_range(word, self.words(), self.floor())?;
-        let split = self.low.words();
+        let split = self.split;
         match word.checked_sub(split) {
             None => self.low.read(word),
             Some(word) => shifted(split, self.high.read(word)),
@@ -106,14 +128,14 @@ impl<L: Port, H: Port> Port for JoinedMap<L, H> {
 
     fn write(&mut self, write: Store) -> Result<(), Fault> {
         check_write(write, self.words(), self.floor())?;
-        let split = self.low.words();
+        let split = self.split;
         match write.word.checked_sub(split) {
-            None => self.low.write(write)?,
-            Some(word) => shifted(split, self.high.write(Store { word, ..write }))?,
+            None => write_through(&mut self.low, write),
+            Some(word) => shifted(
+                split,
+                write_through(&mut self.high, Store { word, ..write }),
+            ),
         }
-        settle_all(&mut self.low);
-        settle_all(&mut self.high);
-        Ok(())
     }
 
     fn advance(&mut self) {
@@ -123,7 +145,7 @@ impl<L: Port, H: Port> Port for JoinedMap<L, H> {
 
     fn settled_read(&self, word: u32) -> Result<u16, Fault> {
         check_range(word, self.words(), self.floor())?;
-        let split = self.low.words();
+        let split = self.split;
         match word.checked_sub(split) {
             None => self.low.settled_read(word),
             Some(word) => shifted(split, self.high.settled_read(word)),
@@ -132,7 +154,7 @@ impl<L: Port, H: Port> Port for JoinedMap<L, H> {
 
     fn outside_write(&mut self, write: Store) -> Result<(), Fault> {
         check_write(write, self.words(), self.floor())?;
-        let split = self.low.words();
+        let split = self.split;
         match write.word.checked_sub(split) {
             None => self.low.outside_write(write),
             Some(word) => shifted(split, self.high.outside_write(Store { word, ..write })),
@@ -141,7 +163,7 @@ impl<L: Port, H: Port> Port for JoinedMap<L, H> {
 
     fn snoop(&mut self, word: u32) -> Result<(), Fault> {
         check_range(word, self.words(), self.floor())?;
-        let split = self.low.words();
+        let split = self.split;
         match word.checked_sub(split) {
             None => self.low.snoop(word),
             Some(word) => shifted(split, self.high.snoop(word)),
@@ -152,4 +174,6 @@ impl<L: Port, H: Port> Port for JoinedMap<L, H> {
         self.low.flush();
         self.high.flush();
     }
+
+    ghost whole = { λ b. whole_lines (((L.state b.low).facts.words + (H.state b.high).facts.words) / 8) };
 }

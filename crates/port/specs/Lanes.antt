@@ -14,9 +14,9 @@ abbrev pub covers : ℕ → Lane → Bool
 covers lanes low = lanes == 1 || lanes == 3
 covers lanes high = lanes == 2 || lanes == 3
 
-abbrev pub joined_byte : Lane → ℕ → ℕ → ℕ → ℕ
-joined_byte lane lanes old new = cond (covers lanes lane) (byte lane new) (byte lane old)
+abbrev pub merged_byte : Lane → ℕ → ℕ → ℕ → ℕ
+merged_byte lane lanes old new = cond (covers lanes lane) (byte lane new) (byte lane old)
 
 -- The old word with the covered bytes of the new one.
-abbrev pub joined : ℕ → ℕ → ℕ → ℕ
-joined lanes old new = joined_byte high lanes old new * 256 + joined_byte low lanes old new
+abbrev pub merged : ℕ → ℕ → ℕ → ℕ
+merged lanes old new = merged_byte high lanes old new * 256 + merged_byte low lanes old new

@@ -1,5 +1,5 @@
 -- What each call of a port answers, and what it does to the port's state.
-use Rattle.std.specs.Prelude.{◌≡◌, ◌≢◌, ℕ, ◌/◌, ◌<◌, min, Bool, cond, ◌&&◌, List, ◌++◌, length, Ok, Err, Result, nat_le, nat_lt}
+use Rattle.std.specs.Prelude.{◌≡◌, ◌≢◌, ℕ, ◌-◌, ◌/◌, ◌^◌, ◌<◌, min, Bool, cond, ◌&&◌, List, ◌++◌, length, Ok, Err, Result, nat_le, nat_lt}
 use Rattle.std.specs.Result.{result_and}
 use Rattle.fault.specs.declared.Fault.{Fault}
 use Rattle.fault.specs.declared.Refusal.TheVariants.{PastEnd, BadLanes, Unreadable}
@@ -50,13 +50,13 @@ marks_answer s line =
 
 -- The waiting count stops at the largest number it can show.
 abbrev pub waiting_answer : State → ℕ
-waiting_answer s = min (length s.waiting) 4294967295
+waiting_answer s = min (length s.waiting) (2 ^ 32 - 1)
 
 -- Some settle: any number of the oldest waiting writes, possibly none, leave the line and settle in order.
 pub record Settles (s t : State) : Type 0 where
   pub gone : List Store
   pub rest : List Store
-  pub line : s.waiting ≡ gone ++ rest
+  pub split : s.waiting ≡ gone ++ rest
   pub after : t ≡ settling gone rest s
 
 -- Some settle, at least one if any waits.

@@ -1,8 +1,9 @@
 -- Calls with their answers, and what several of them do one after another.
-use Rattle.std.specs.Prelude.{◌≡◌, ℕ, ◌<◌, List, [], ◌∷◌, length, Result}
+use Rattle.std.specs.Prelude.{◌≡◌, ℕ, ◌<◌, Bool, true, false, cond, ◌&&◌, List, [], ◌∷◌, length, flat_map, Result, is_ok}
 use Rattle.fault.specs.declared.Fault.{Fault}
 use Rattle.port.specs.declared.Store.{Store}
 use Rattle.port.specs.Memory.{State}
+use Rattle.port.specs.Meaning.{ByAnswer}
 
 -- A call that may change a port, with its arguments and its answer. A settled read and the questions change nothing.
 pub data Step : Type 0 where
@@ -22,3 +23,78 @@ pub data Chain {P : Type 0} (does : P → Step → P → Type 0) : P → List St
 pub data Drains {P : Type 0} (state : P → State) (does : P → Step → P → Type 0) : P → P → Type 0 where
   empty : {p : P} → (state p).waiting ≡ [] → Drains state does p p
   more : {p q r : P} → 0 < length (state p).waiting → does p advances q → Drains state does q r → Drains state does p r
+
+-- A write with its answer, and where it was taken, advances until no write waits.
+pub record Through {P : Type 0} (state : P → State) (does : P → Step → P → Type 0) (w : Store) (r : Result (Unit {0}) Fault) (p q : P) : Type 0 where
+  pub between : P
+  pub wrote : does p (writes w r) between
+  pub drains : ByAnswer r (Drains state does between q) (q ≡ between)
+
+-- WHICH CALLS COUNT
+
+-- What a call is to a stage: a read, a processor's write, an advance, or news that every stage has to hear.
+pub data Kind : Type 0 where
+  read advance news : Kind
+  write : Store → Kind
+
+-- A call in one line: what it is, and whether it was accepted.
+pub record Sort : Type 0 where
+  pub kind : Kind
+  pub accepted : Bool
+
+abbrev pub sort_by : Kind → Bool → Sort
+sort_by kind accepted = record { kind = kind; accepted = accepted }
+
+abbrev pub sort : Step → Sort
+sort (reads w r) = sort_by read (is_ok r)
+sort (writes w r) = sort_by (write w) (is_ok r)
+sort advances = sort_by advance true
+sort (outsides w r) = sort_by news (is_ok r)
+sort (snoops w r) = sort_by news (is_ok r)
+sort flushes = sort_by news true
+
+abbrev pub is_news : Kind → Bool
+is_news news = true
+is_news (write w) = false
+is_news read = false
+is_news advance = false
+
+abbrev pub is_no_read : Kind → Bool
+is_no_read read = false
+is_no_read (write w) = true
+is_no_read advance = true
+is_no_read news = true
+
+abbrev pub is_asked : Kind → Bool
+is_asked read = false
+is_asked (write w) = true
+is_asked advance = false
+is_asked news = true
+
+-- The processor's write, if it was accepted.
+abbrev pub written_as : Kind → Bool → List Store
+written_as (write w) accepted = cond accepted (w ∷ []) []
+written_as read accepted = []
+written_as advance accepted = []
+written_as news accepted = []
+
+abbrev pub written : Step → List Store
+written d = written_as (sort d).kind (sort d).accepted
+
+-- What was accepted, but for reads.
+abbrev pub accepted : Step → List Step
+accepted d = cond (is_no_read (sort d).kind && (sort d).accepted) (d ∷ []) []
+
+-- What was accepted and every stage has to hear of: outside writes, snoops and flushes.
+abbrev pub announced : Step → List Step
+announced d = cond (is_news (sort d).kind && (sort d).accepted) (d ∷ []) []
+
+-- All but reads and advances, whatever was answered.
+abbrev pub asked : Step → List Step
+asked d = cond (is_asked (sort d).kind) (d ∷ []) []
+
+-- Some calls lead from one port to the other, and those of them that count are these, each once and in order.
+pub record Gets {P : Type 0} (does : P → Step → P → Type 0) (counts : Step → List Step) (ds : List Step) (p q : P) : Type 0 where
+  pub calls : List Step
+  pub chain : Chain does p calls q
+  pub counted : flat_map counts calls ≡ ds

@@ -1,12 +1,12 @@
 //! One memory port: what every port means, and what the stages above it may rest on.
 #![tactic(auto)]
 
-ghost use Rattle.std.specs.Prelude.{◌≡◌, ℕ, ◌%◌, ◌≤◌, [], ◌∷◌, OnOk};
-ghost use Rattle.port.specs.Lanes.{joined};
-ghost use Rattle.port.specs.Memory.{State, seen, posted, drained, outside, raised};
+ghost use Rattle.std.specs.Prelude.{◌≡◌, ℕ, [], ◌∷◌, OnOk};
+ghost use Rattle.port.specs.Lanes.{merged};
+ghost use Rattle.port.specs.Memory.{State, WholeLines, seen, posted, drained, outside, raised};
 ghost use Rattle.port.specs.Meaning.{within, writable, read_answer, settled_answer, write_answer, snoop_answer, marks_answer, waiting_answer, Settles, Advances, ByAnswer, Kept};
 ghost use Rattle.port.specs.Checks.{InRange, Writable};
-ghost use Rattle.port.specs.Steps.{Step, reads, writes, advances, outsides, snoops, flushes, Drains};
+ghost use Rattle.port.specs.Steps.{Step, reads, writes, advances, outsides, snoops, flushes, Drains, Through};
 ghost use Rattle.port.specs.Laws.{SettlingIsLawful};
 
 use fault::{Fault, Refusal};
@@ -30,7 +30,7 @@ impl Store {
 
     /// The old word once the lanes of this write are replaced in it.
     pub fn over(self, old: u16) -> u16
-        ensures { result ≡ joined self.lanes old self.value }
+        ensures { result ≡ merged self.lanes old self.value }
     {
         let new = self.value;
         match self.lanes {
@@ -83,9 +83,7 @@ pub trait Port {
 
     /// How many words there are.
     fn words(&self) -> u32
-        ensures value { result ≡ (state self.now).facts.words }
-        ensures lines { result % 8 ≡ 0 }
-        ensures most { result ≤ 8388608 };
+        ensures { result ≡ (state self.now).facts.words };
 
     /// How many stages stand below, up to 255.
     fn floor(&self) -> u8
@@ -137,6 +135,9 @@ pub trait Port {
     fn flush(&mut self)
         ensures after { state self.new ≡ state self.old }
         ensures did { does self.old flushes self.new };
+
+    // Below the calls stands what each port proves of itself.
+    ghost whole: { (p : Self) → WholeLines (state p).facts.words };
 }
 
 /// Refuses a word past the end, on the floor of a stage over the port.
@@ -164,4 +165,15 @@ pub fn settle_all<P: Port>(port: &mut P)
     while port.waiting() > 0 {
         port.advance();
     }
+}
+
+/// A write that has settled, with all that waited before it, when the call returns.
+pub fn write_through<P: Port>(port: &mut P, write: Store) -> Result<(), Fault>
+    ensures value { result ≡ write_answer (P.state port.old) write }
+    ensures after { ByAnswer result (P.state port.new ≡ drained (posted (write ∷ []) (P.state port.old))) (port.new ≡ port.old) }
+    ensures did { Through P.state P.does write result port.old port.new }
+{
+    port.write(write)?;
+    settle_all(port);
+    Ok(())
 }

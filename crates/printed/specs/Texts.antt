@@ -3,7 +3,7 @@ use Rattle.std.specs.Prelude.{ℕ, ◌/◌, ◌%◌, true, List, [], ◌∷◌, 
 use Rattle.std.specs.Fmt.{digit_glyph}
 use Rattle.fault.specs.declared.Fault.{Fault}
 use Rattle.fault.specs.declared.Refusal.{Refusal}
-use Rattle.fault.specs.declared.Refusal.TheVariants.{PastEnd, BadLanes, Unreadable, Locked, Granted, NotLocked, NotGranted, UnfitSize, ListLength, ListWord}
+use Rattle.fault.specs.declared.Refusal.TheVariants.{UnfitSize}
 use Rattle.fault.specs.Numbers.{number_of}
 use Rattle.fault.specs.Texts.{fault_text}
 use Rattle.calls.specs.Calls.{name_of}
@@ -27,16 +27,8 @@ outcome_text (Err fault) = fault_text fault
 
 -- What was refused as a whole: the card for its size, else the list.
 abbrev pub whole_of : Refusal → List ℕ
-whole_of PastEnd = codes "list"
-whole_of BadLanes = codes "list"
-whole_of Unreadable = codes "list"
-whole_of Locked = codes "list"
-whole_of Granted = codes "list"
-whole_of NotLocked = codes "list"
-whole_of NotGranted = codes "list"
 whole_of UnfitSize = codes "card"
-whole_of ListLength = codes "list"
-whole_of ListWord = codes "list"
+whole_of other = codes "list"
 
 abbrev pub text_of : Printed → List ℕ
 text_of (Words words) = codes "board " ++ (decimal words ++ codes " words")

@@ -13,7 +13,7 @@ use Rattle.book.specs.Runs.{Moment, calls_of, answers_of, Follows}
 
 -- The book of a board in mode m whose memory is now mem, with nothing waiting.
 abbrev pub still : Mode → State → Memory → Book
-still m s mem = book_of m (record { facts = s.facts; protected = s.protected; settled = mem; waiting = [] })
+still m s mem = book_of m (record s { settled = mem; waiting = [] })
 
 -- However many writes the call may settle, it leads from b to e and is answered by r.
 pub record Forced (b : Book) (c : Call) (e : Book) (r : Result Answer Fault) : Type 0 where

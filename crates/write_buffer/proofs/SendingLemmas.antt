@@ -16,7 +16,7 @@ settles_facts s t a = ap (λ (x : State). x.facts) a.after
 -- a line that goes on twice
 pub posted_twice : (s : State) (vs ws : List Store) → posted ws (posted vs s) ≡ posted (vs ++ ws) s
 posted_twice s vs ws =
-    ap (λ (l : List Store). record { facts = s.facts; protected = s.protected; settled = s.settled; waiting = l }) (append_assoc s.waiting vs ws)
+    ap (λ (l : List Store). record s { waiting = l }) (append_assoc s.waiting vs ws)
 
 -- what is sent from the front of a queue settles in the line that goes on with the rest of it
 pub send_one : (s t : State) (w : Store) (ws : List Store) → Settles (posted (w ∷ []) s) t → Settles (posted (w ∷ ws) s) (posted ws t)

@@ -1,5 +1,5 @@
 -- The line of writes in a queue, and how it changes.
-use Rattle.std.specs.Prelude.{◌≡◌, ◌≤◌, cond, List, [], ◌∷◌, ◌++◌, length, take, Some, None, Option, nat_lt}
+use Rattle.std.specs.Prelude.{◌≡◌, ◌≤◌, cond, List, [], ◌∷◌, ◌++◌, length, take, Some, None, Option, nat_lt, ◌<◌, ℕ}
 use Rattle.std.specs.Option.{option_to_list as left}
 use Rattle.port.specs.declared.Store.{Store}
 use Rattle.write_buffer.specs.declared.queue.Queue.{Queue}
@@ -16,12 +16,15 @@ abbrev pub younger : List Store → List Store
 younger [] = []
 younger (w ∷ ws) = ws
 
--- A queue has four places: who joins a full one makes the oldest leave.
+-- How many places a queue has: who joins a full one makes the oldest leave.
+abbrev pub queue_places : ℕ
+queue_places = 4
+
 abbrev pub leaving : List Store → Option Store
-leaving ws = cond (nat_lt (length ws) 4) None (oldest ws)
+leaving ws = cond (nat_lt (length ws) queue_places) None (oldest ws)
 
 abbrev pub staying : List Store → List Store
-staying ws = cond (nat_lt (length ws) 4) ws (younger ws)
+staying ws = cond (nat_lt (length ws) queue_places) ws (younger ws)
 
 abbrev pub joined : Store → List Store → List Store
 joined w ws = staying ws ++ (w ∷ [])
@@ -30,6 +33,6 @@ pub record OldestLeavesFirst : Type 0 where
   -- what leaves and what stays make up the line with its new write, in order: none is lost, doubled or passed
   pub whole : (w : Store) (ws : List Store) → left (leaving ws) ++ joined w ws ≡ ws ++ (w ∷ [])
   -- four at most wait
-  pub four : (w : Store) (ws : List Store) → length ws ≤ 4 → length (joined w ws) ≤ 4
+  pub four : (w : Store) (ws : List Store) → length ws ≤ queue_places → length (joined w ws) ≤ queue_places
   -- none leaves a queue that has a free place
-  pub free : (ws : List Store) → length ws ≤ 3 → leaving ws ≡ None
+  pub free : (ws : List Store) → length ws < queue_places → leaving ws ≡ None

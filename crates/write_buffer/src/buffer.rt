@@ -108,4 +108,6 @@ impl<P: Port> Port for WriteBuffer<P> {
     fn flush(&mut self) {
         self.below.flush();
     }
+
+    ghost whole = { λ b. P.whole b.below };
 }

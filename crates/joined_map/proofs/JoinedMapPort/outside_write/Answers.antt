@@ -5,10 +5,12 @@ use Rattle.joined_map.proofs.JoinedMapPort.outside_write.Goals as goal
 pub returns-in-None-clause-after : goal.returns-in-None-clause-after
 returns-in-None-clause-after g c =
     let j = c.args.self.now in
-    let low : c.args.write.word < c.words-split.result = omega arith in
-    search (rules, low_outside (g.L.Port.state j.low) (g.H.Port.state j.high) c.args.write c.words.result c.floor.result c.words-split.result (search rules))
+    let sized = g.met.L.Port.whole j.low in
+    let low : c.args.write.word < c.args.self.now.split = omega arith in
+    search (rules, low_outside (g.L.Port.state j.low) (g.H.Port.state j.high) c.args.write c.words.result c.floor.result j.split (search rules))
 
 pub returns-in-Some-clause-after : goal.returns-in-Some-clause-after
 returns-in-Some-clause-after g c =
     let j = c.args.self.now in
-    search (rules, high_outside (g.L.Port.state j.low) (g.H.Port.state j.high) c.args.write c.words.result c.floor.result c.words-split.result (search rules))
+    let sized = g.met.L.Port.whole j.low in
+    search (rules, high_outside (g.L.Port.state j.low) (g.H.Port.state j.high) c.args.write c.words.result c.floor.result j.split (search rules))

@@ -1,11 +1,16 @@
-use Rattle.std.proofs.Common.{rules}
+use Rattle.std.proofs.Common.{◌<◌, rules, arith}
 use Rattle.joined_map.proofs.Joints.{low_write, high_write}
 use Rattle.joined_map.proofs.JoinedMapPort.write.Goals as goal
-use Rattle.joined_map.proofs.JoinedMapPort.write.Goals.{in-None+in_ok-write-in-None, in-Some+in_ok-shifted-in-Some}
 
-pub returns-clause-after : goal.returns-clause-after
-returns-clause-after g c =
-    elim c.match-checked_sub.branch [
-      | in-None+in_ok-write-in-None v ↦ search (rules, low_write)
-      | in-Some+in_ok-shifted-in-Some v ↦ search (rules, high_write)
-    ]
+pub returns-in-None-clause-after : goal.returns-in-None-clause-after
+returns-in-None-clause-after g c =
+    let j = c.args.self.now in
+    let sized = g.met.L.Port.whole j.low in
+    let low : c.args.write.word < c.args.self.now.split = omega arith in
+    search (rules, low_write (g.L.Port.state j.low) (g.H.Port.state j.high) c.args.write c.words.result c.floor.result j.split (search rules))
+
+pub returns-in-Some-clause-after : goal.returns-in-Some-clause-after
+returns-in-Some-clause-after g c =
+    let j = c.args.self.now in
+    let sized = g.met.L.Port.whole j.low in
+    search (rules, high_write (g.L.Port.state j.low) (g.H.Port.state j.high) c.args.write c.words.result c.floor.result j.split (search rules))

@@ -6,7 +6,9 @@ use Rattle.cache.proofs.Passing.{only_reads_are_kept}
 use Rattle.cache.proofs.cache.Cache.new.Goals as goal
 
 pub invariant_of-result : goal.invariant_of-result
-invariant_of-result g c = search (rules, cleared_kept)
+invariant_of-result g c =
+    let sized = g.met.P.Port.whole c.args.below in
+    search (rules, cleared_kept)
 
 pub returns-clause-law : goal.returns-clause-law
 returns-clause-law g c = caching_is_lawful
