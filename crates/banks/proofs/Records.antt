@@ -4,7 +4,7 @@ use Rattle.std.proofs.lemmas.Bool.{cases_eq}
 use Rattle.std.proofs.lemmas.Bool.Decides.{nat_tests}
 use Rattle.port.specs.declared.Store.{Store}
 use Rattle.port.specs.Lanes.{merged}
-use Rattle.port.specs.Memory.{line_of, stored, outside, place_of}
+use Rattle.port.specs.Memory.{line_of, stored, outside, offset_of}
 use Rattle.banks.specs.declared.line.Line.{Line}
 use Rattle.banks.specs.Sizes.{words_of_lines}
 use Rattle.banks.specs.Lines.{blank, line_at, memory_of, changed}
@@ -29,16 +29,16 @@ module _ (ls : List Line) (w : Store) (fits : line_of w.word < length ls) (full 
   word_after a =
       let at = get_or-set_same ls line new blank fits in
       let else = get_or-set_other ls line (line_of a) new blank in
-      let low : place_of w.word < length (line_at ls line).words = omega arith in
-      let at' = get_or-set_same (line_at ls line).words (place_of w.word) (merged w.lanes ((memory_of ls).word w.word) w.value) 0 low in
-      let else' = get_or-set_other (line_at ls line).words (place_of w.word) (place_of a) (merged w.lanes ((memory_of ls).word w.word) w.value) 0 in
+      let low : offset_of w.word < length (line_at ls line).words = omega arith in
+      let at' = get_or-set_same (line_at ls line).words (offset_of w.word) (merged w.lanes ((memory_of ls).word w.word) w.value) 0 low in
+      let else' = get_or-set_other (line_at ls line).words (offset_of w.word) (offset_of a) (merged w.lanes ((memory_of ls).word w.word) w.value) 0 in
       grind (arith, nat_tests)
 
   state_after : ram_state (set ls line new) ≡ outside w (ram_state ls)
   state_after = λ i. record {
     facts = record { words = words_of_lines (length-set ls line new i); floor = 0; cacheable = λ k. kept (λ l. l.cacheable) ls line k new fits refl i };
     protected = λ k. kept (λ l. l.protect) ls line k new fits refl i;
-    settled = record { word = λ a. word_after a i; readable = λ a. kept (λ l. get_or l.readable (place_of a) false) ls line (line_of a) new fits refl i };
+    settled = record { word = λ a. word_after a i; readable = λ a. kept (λ l. get_or l.readable (offset_of a) false) ls line (line_of a) new fits refl i };
     waiting = [];
   }
 

@@ -23,12 +23,12 @@ impl Line {
         readable: [true; 8],
     };
 
-    // Changes the lanes of a write in the word at its place in the line.
+    // Changes the lanes of a write in the word at its offset in the line.
     pub(crate) fn change(&mut self, write: Store)
         ensures full { length self.old.words ≡ 8 }
         ensures after { self.new ≡ changed self.old write }
     {
-        let place = (write.word % 8) as usize;
-        self.words[place] = write.over(self.words[place]);
+        let offset = (write.word % 8) as usize;
+        self.words[offset] = write.over(self.words[offset]);
     }
 }

@@ -33,7 +33,6 @@ impl<'a> RamBank<'a> {
     }
 }
 
-// The EPROM bank's calls are like these. A bank that is generic over what stores its words would have more clauses than it saves.
 impl<'a> Port for RamBank<'a> {
     ghost state = { λ b. ram_state b.lines.now };
 
@@ -72,15 +71,15 @@ impl<'a> Port for RamBank<'a> {
         check_range(word, self.words(), 0)?;
         let lines = &*self.lines;
         let line = &lines[(word / 8) as usize];
-        let place = (word % 8) as usize;
-        if !line.readable[place] {
+        let offset = (word % 8) as usize;
+        if !line.readable[offset] {
             return Err(Fault {
                 refusal: Refusal::Unreadable,
                 place: word,
                 floor: 0,
             });
         }
-        Ok(line.words[place])
+        Ok(line.words[offset])
     }
 
     fn outside_write(&mut self, write: Store) -> Result<(), Fault> {

@@ -9,13 +9,13 @@ use Rattle.port.specs.Steps.{Step, reads, writes}
 use Rattle.write_buffer.specs.Queues.{leaving}
 use Rattle.write_buffer.specs.Queues.{joined as queue_with}
 use Rattle.write_buffer.specs.Buffering.{sends}
-use Rattle.directory.specs.declared.marks.WayNumber.{WayNumber}
-use Rattle.directory.specs.declared.marks.WayNumber.TheVariants.{Zero, One, Two, Three}
+use Rattle.directory.specs.declared.lru.WayNumber.{WayNumber}
+use Rattle.directory.specs.declared.lru.WayNumber.TheVariants.{Zero, One, Two, Three}
 use Rattle.directory.specs.declared.fills.Fill.{Fill}
 use Rattle.directory.specs.Dirs.{found}
 use Rattle.cache_tables.specs.Showing.{Shown}
 use Rattle.cache_tables.specs.Rules.{Model, read_turn, finish_turn, snoop_turn, flush_turn}
-use Rattle.bench.specs.Places.{location_of}
+use Rattle.bench.specs.Locations.{location_of}
 
 -- Memory of 16,384 words, all of which can be read, written and cached.
 abbrev pub plain : (ℕ → ℕ) → Shown
@@ -98,7 +98,7 @@ overtaken =
     (posted (record { word = 2; lanes = 1; value = 0x0022 } ∷ []) (settled_at 0x1111))
 
 pub record BenchCards : Type 0 where
-  pub word_20003 : location_of 20003 ≡ record { line = 2500; place = 3; set = 196; tag = 9 }
+  pub word_20003 : location_of 20003 ≡ record { line = 2500; offset = 3; set = 196; tag = 9 }
   -- after a flush five lines of a set, each filled, go to ways 0, 2, 1, 3, 0, which were named at their misses
   pub ways_are_named : (content : ℕ → ℕ) → ways_named content flushed five_lines ≡ Some Zero ∷ Some Two ∷ Some One ∷ Some Three ∷ Some Zero ∷ []
   pub ways_are_taken : (content : ℕ → ℕ) → ways_taken content flushed five_lines ≡ Some Zero ∷ Some Two ∷ Some One ∷ Some Three ∷ Some Zero ∷ []
@@ -106,7 +106,7 @@ pub record BenchCards : Type 0 where
   pub held_before : (content : ℕ → ℕ) → found (filled_all content flushed four_lines).dir 256 ≡ Some Two
   pub snoop_drops : (content : ℕ → ℕ) → found (snooped content).dir 256 ≡ None
   pub snoop_leaves_way_0 : (content : ℕ → ℕ) → way_named (missed content (snooped content) 1024).fill ≡ Some Zero
-  -- a fill from place 5, here of line 0, reads these words below
+  -- a fill from offset 5, here of line 0, reads these words below
   pub fill_order : (content : ℕ → ℕ) → fill_calls content 5 ≡
       gets content 5 ∷ gets content 4 ∷ gets content 7 ∷ gets content 6 ∷ gets content 1 ∷ gets content 0 ∷ gets content 3 ∷ gets content 2 ∷ []
   pub low_lane : merged 1 0x1234 0xabcd ≡ 0x12cd

@@ -1,2 +1,2 @@
-pub mod Places
+pub mod Locations
 pub mod Cards

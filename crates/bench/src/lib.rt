@@ -2,7 +2,7 @@
 #![tactic(auto)]
 
 ghost use Rattle.std.specs.Prelude.{◌≡◌};
-ghost use Rattle.bench.specs.Places.{location_of};
+ghost use Rattle.bench.specs.Locations.{location_of};
 ghost use Rattle.bench.specs.Cards.{BenchCards};
 
 /// Where a word lies.
@@ -10,13 +10,13 @@ ghost use Rattle.bench.specs.Cards.{BenchCards};
 pub struct Location {
     pub line: u32,
     /// Which of the line's eight words it is.
-    pub place: u32,
+    pub offset: u32,
     /// The set that the line belongs to, and the tag that tells it from the other lines of that set.
     pub set: u32,
     pub tag: u32,
 }
 
-/// The line and place of a word, and the set and tag of the line. The contract carries the bench cards, of which the first is this
+/// The line and offset of a word, and the set and tag of the line. The contract carries the bench cards, of which the first is this
 /// answer for word 20,003.
 pub fn locate(word: u32) -> Location
     ensures value { result ≡ location_of word }
@@ -26,7 +26,7 @@ pub fn locate(word: u32) -> Location
     let line = word / 8;
     Location {
         line,
-        place: word % 8,
+        offset: word % 8,
         set: line % 256,
         tag: line / 256,
     }

@@ -55,7 +55,7 @@ fn is_held<P: Port>(board: &mut Board<P>, first: u32, steps: u32, word: u32) -> 
 }
 
 // The place in a line that a step of a fill brings: held after the step, and not before it.
-fn place_at_step<P: Port>(board: &mut Board<P>, line: u32, first: u32, step: u32) -> Option<u32> {
+fn offset_at_step<P: Port>(board: &mut Board<P>, line: u32, first: u32, step: u32) -> Option<u32> {
     (0..8u32).find(|place| {
         let word = line.wrapping_mul(8).wrapping_add(*place);
         let before = step > 0 && is_held(board, first, step - 1, word);
@@ -91,7 +91,7 @@ fn try_where<P: Port>(rt: &HostRuntime, board: &mut Board<Cache<P>>) -> io::Resu
         return println!(rt; "word 20003: not kept");
     };
     let line = tag.wrapping_mul(256).wrapping_add(set);
-    match place_at_step(board, line, 20_003, 0) {
+    match offset_at_step(board, line, 20_003, 0) {
         Some(place) => println!(rt; "word 20003: line {line}, place {place}, set {set}, tag {tag}"),
         None => println!(rt; "word 20003: not in line {line}"),
     }
@@ -125,7 +125,7 @@ fn try_snoop<P: Port>(rt: &HostRuntime, board: &mut Board<Cache<P>>) -> io::Resu
 fn try_order<P: Port>(rt: &HostRuntime, board: &mut Board<P>) -> io::Result<()> {
     print!(rt; "fill from place 5:")?;
     for step in 0..8u32 {
-        match place_at_step(board, 2_500, 20_005, step) {
+        match offset_at_step(board, 2_500, 20_005, step) {
             Some(place) => print!(rt; " {place}")?,
             None => print!(rt; " none")?,
         }

@@ -14,9 +14,6 @@ use calls::{Call, Cargo};
 use fault::{Fault, Refusal};
 use port::{Port, Store, settle_all, write_through};
 
-// Two tokens with calls of their own, as the users asked for. One token over a trait of its four calls would save five short bodies, for a
-// trait with four definitions and two impls of eight lines each.
-
 /// The right to make locked calls: handed out by `lock`, spent by `unlock`.
 pub struct Lock {
     mark: (),
@@ -118,7 +115,7 @@ impl<P: Port> Board<P> {
         ensures called { Called P.Port self.old.mode self.old.port call result self.new.mode self.new.port }
     {
         let place = place_of(call);
-        // One table of the mode and the call, as the users asked for.
+        // The mode and the call together decide: a row for each that is taken, and then the refusals.
         match (call, self.mode) {
             (Call::Read(word), Mode::Free | Mode::Granted) => self
                 .port

@@ -102,7 +102,7 @@ static EVERY_KIND: [Call; 40] = [
     }),
 ];
 
-/// The display's writes, past the line of waiting writes.
+/// The display's writes, past the waiting line.
 static MASTER_WRITES: [Call; 9] = [
     Call::Unposted(Store {
         word: 5,
@@ -178,8 +178,7 @@ static FIVE_WRITES: [Call; 10] = [
     Call::Give,
 ];
 
-// Zeroed RAM of that many lines, with word 37 unreadable. The program of banks makes such RAM too: a library for it would be a crate of these
-// few lines.
+// Zeroed RAM of that many lines, with word 37 unreadable.
 fn make_ram(alloc: Global, lines: usize) -> Result<Vec<Line>, AllocError> {
     let mut records = vec![in alloc; Line::ZEROED; lines]?;
     if let Some(line) = records.get_mut(37 / 8) {
@@ -205,8 +204,7 @@ fn try_list<P: Port + Drop>(
     println!(rt; "  waiting {waiting}")
 }
 
-// Runs a list on two boards over ports of different kinds, and prints the answers side by side. A program of piles prints calls with what
-// they carry: one loop for both would take the printing of a line as a closure, and be longer.
+// Runs a list on two boards over ports of different kinds, and prints the answers side by side.
 fn try_pair<P: Port + Drop, Q: Port + Drop>(
     rt: &HostRuntime,
     title: &str,

@@ -26,14 +26,14 @@ first s = book_of Free (drained s)
 abbrev pub refused : Book → Call → Option Refusal
 refused b c = refusal b.mode b.state.facts.words c
 
--- The line of waiting writes once the call's own has joined it.
+-- The waiting line once the call's own has joined it.
 abbrev pub joins : Book → Call → List Store
 joins b c = if_taken (refused b c) (posts c) []
 
 abbrev pub waiting_line : Book → Call → List Store
 waiting_line b c = b.state.waiting ++ joins b c
 
--- A master's write goes past the line, and settles at once.
+-- A master's write goes past the waiting line, and settles at once.
 abbrev pub masters : Book → Call → List Store
 masters b c = if_taken (refused b c) (masters_writes c) []
 

@@ -58,7 +58,7 @@ marked p ws = map (entry_of p) ws
 pub record Ledger : Type 0 where
   -- the processor's that wait
   pub waiting : List Entry
-  -- those that have settled: a master's at its call, a processor's as it leaves the line
+  -- those that have settled: a master's at its call, a processor's as it leaves the waiting line
   pub settled : List Entry
   -- the processor's among those
   pub own : List Entry

@@ -11,7 +11,7 @@ pub enum Mode {
     Granted,
 }
 
-/// The answer to a call that was taken. It is no `Option` of a word: a call that was done has an answer, which `None` would not read as.
+/// The answer to a call that was taken.
 #[derive(Clone, Copy, Debug, PartialEq)]
 pub enum Answer {
     Done,

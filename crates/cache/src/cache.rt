@@ -98,7 +98,7 @@ impl<P: Port> Cache<P> {
     ghost use Rattle.cache.specs.Doing.{tables_of, inspect_answer};
     ghost use Rattle.cache.specs.Runs.{OnlyReadsAreKept};
 
-    /// A cache over a port, with no valid way, no mark and no fill.
+    /// A cache over a port, with no valid way, no LRU bit set and no fill.
     pub fn new(below: P) -> Cache<P>
         ensures below { result.below ≡ below }
         ensures tables { tables_of result ≡ cleared }
@@ -132,8 +132,6 @@ impl<P: Port> Cache<P> {
     }
 }
 
-// What is only passed on to the port below takes a line each here and in the write buffer: a trait of stages, with the port below as one of
-// its methods, would have more clauses than that.
 impl<P: Port> Port for Cache<P> {
     ghost use Rattle.port.specs.Memory.{raised};
     ghost use Rattle.cache.specs.Doing.{Does};

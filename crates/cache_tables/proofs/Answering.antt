@@ -2,11 +2,11 @@
 use Rattle.std.proofs.Common.{◌≡◌, ℕ, Bool, true, false, if◌then◌else◌, get_or, Some, None, Option, sym, refl, ap, ◌∙◌}
 use Rattle.std.specs.Option.{option_map}
 use Rattle.port.specs.declared.Store.{Store}
-use Rattle.directory.specs.declared.marks.WayNumber.{WayNumber}
+use Rattle.directory.specs.declared.lru.WayNumber.{WayNumber}
 use Rattle.directory.specs.declared.sets.Way.{Way}
 use Rattle.directory.specs.declared.fills.Fill.{Fill}
 use Rattle.directory.specs.Dirs.{Dir, set_of, found, touched, changed}
-use Rattle.port.specs.Memory.{line_of, place_of}
+use Rattle.port.specs.Memory.{line_of, offset_of}
 use Rattle.cache_tables.specs.Rules.{Model, hit_of, hit, changed_way, changed_of, changed_word, written}
 
 module _ (w : Store) (k : WayNumber) where
@@ -52,8 +52,8 @@ shut_kept e w k (Some x) h = by_protect x.protect h
 
 -- the way that was looked up answers, once it is touched
 pub hit_value : (d e : Dir) (w : ℕ) (k : WayNumber) (o : Option Way) (r : Option ℕ) → Some k ≡ found d (line_of w) → e ≡ touched d (set_of (line_of w)) k → o ≡ e.way (set_of (line_of w)) k →
-    r ≡ option_map (λ y. get_or y.words (place_of w) 0) o → r ≡ hit d w
+    r ≡ option_map (λ y. get_or y.words (offset_of w) 0) o → r ≡ hit d w
 hit_value d e w k o r is touch way value =
     value
-    ∙ ap (option_map (λ (y : Way). get_or y.words (place_of w) 0)) (way ∙ ap (λ (z : Dir). z.way (set_of (line_of w)) k) touch)
+    ∙ ap (option_map (λ (y : Way). get_or y.words (offset_of w) 0)) (way ∙ ap (λ (z : Dir). z.way (set_of (line_of w)) k) touch)
     ∙ ap (hit_of d w) is

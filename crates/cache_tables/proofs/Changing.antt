@@ -3,9 +3,9 @@ use Rattle.std.proofs.Common.{◌≡◌, ℕ, ◌+◌, ◌*◌, ◌/◌, ◌%◌
 use Rattle.std.proofs.lemmas.Bool.{ne_eqb, eqb-true, eq-eqb, eqb-false, both_ways, and_from, and_cases, cond-true, cond-false, not-false}
 use Rattle.port.specs.declared.Store.{Store}
 use Rattle.port.specs.Lanes.{merged}
-use Rattle.port.specs.Memory.{State, Memory, stored, applied, posted, outside, line_of, place_of, most_words}
+use Rattle.port.specs.Memory.{State, Memory, stored, applied, posted, outside, line_of, offset_of, most_words}
 use Rattle.port.proofs.Settling.{applied-append, applied_readable}
-use Rattle.directory.specs.declared.marks.WayNumber.{WayNumber}
+use Rattle.directory.specs.declared.lru.WayNumber.{WayNumber}
 use Rattle.directory.specs.declared.sets.Way.{Way}
 use Rattle.directory.specs.declared.fills.Fill.{Fill}
 use Rattle.std.specs.Option.{option_map}
@@ -108,9 +108,9 @@ kept_alike v u i y e a h = record {
 }
 
 fetched_line : (b : Fill) (a x : ℕ) → fetched_word b a ≡ Some x → line_of a ≡ b.line
-fetched_line b a x e = by_test (eqb b.line (line_of a)) (ticked b.ticks (place_of a)) refl e
+fetched_line b a x e = by_test (eqb b.line (line_of a)) (ticked b.ticks (offset_of a)) refl e
   where
-    by_test : (p q : Bool) → eqb b.line (line_of a) ≡ p → cond (p && q) (Some (get_or b.words (place_of a) 0)) None ≡ Some x → line_of a ≡ b.line
+    by_test : (p q : Bool) → eqb b.line (line_of a) ≡ p → cond (p && q) (Some (get_or b.words (offset_of a) 0)) None ≡ Some x → line_of a ≡ b.line
     by_test true q h e = sym (eqb-true b.line (line_of a) h)
     by_test false q h e = absurd (cc)
 
@@ -192,18 +192,18 @@ module _ (v : Shown) (w : Store) where
           cond-true (v.protected (x / 8)) (v.word x) _ (ap (λ (y : ℕ). v.protected y) e ∙ a (sym e ∙ ap line_of (eqb-true x w.word h)))
 
   line_written : v.protected line ≡ false →
-      set (line_seen v line) (place_of w.word) (merged w.lanes (get_or (line_seen v line) (place_of w.word) 0) w.value) ≡ line_seen (overwritten v w) line
-  line_written o = eight_set (λ p. v.word (line * 8 + p)) (λ p. (overwritten v w).word (line * 8 + p)) (place_of w.word) _ (omega arith) here other
+      set (line_seen v line) (offset_of w.word) (merged w.lanes (get_or (line_seen v line) (offset_of w.word) 0) w.value) ≡ line_seen (overwritten v w) line
+  line_written o = eight_set (λ p. v.word (line * 8 + p)) (λ p. (overwritten v w).word (line * 8 + p)) (offset_of w.word) _ (omega arith) here other
     where
-      here : (overwritten v w).word (line * 8 + place_of w.word) ≡ merged w.lanes (get_or (line_seen v line) (place_of w.word) 0) w.value
+      here : (overwritten v w).word (line * 8 + offset_of w.word) ≡ merged w.lanes (get_or (line_seen v line) (offset_of w.word) 0) w.value
       here =
-          let hp : place_of w.word < 8 = omega arith in
-          let at : (line * 8 + place_of w.word) / 8 ≡ line = omega arith in
-          cond-true (eqb (line * 8 + place_of w.word) w.word) _ _ (eq-eqb (line * 8 + place_of w.word) w.word (line_word w.word))
-          ∙ cond-false (v.protected ((line * 8 + place_of w.word) / 8)) _ _ (ap (λ (x : ℕ). v.protected x) at ∙ o)
-          ∙ ap (λ (x : ℕ). merged w.lanes x w.value) (sym (eight_at (λ p. v.word (line * 8 + p)) (place_of w.word) hp))
+          let hp : offset_of w.word < 8 = omega arith in
+          let at : (line * 8 + offset_of w.word) / 8 ≡ line = omega arith in
+          cond-true (eqb (line * 8 + offset_of w.word) w.word) _ _ (eq-eqb (line * 8 + offset_of w.word) w.word (line_word w.word))
+          ∙ cond-false (v.protected ((line * 8 + offset_of w.word) / 8)) _ _ (ap (λ (x : ℕ). v.protected x) at ∙ o)
+          ∙ ap (λ (x : ℕ). merged w.lanes x w.value) (sym (eight_at (λ p. v.word (line * 8 + p)) (offset_of w.word) hp))
 
-      other : (p : ℕ) → p < 8 → p ≢ place_of w.word → (overwritten v w).word (line * 8 + p) ≡ v.word (line * 8 + p)
+      other : (p : ℕ) → p < 8 → p ≢ offset_of w.word → (overwritten v w).word (line * 8 + p) ≡ v.word (line * 8 + p)
       other p hp n = cond-false (eqb (line * 8 + p) w.word) _ _ (ne_eqb (line * 8 + p) w.word (λ e. n (omega arith)))
 
   fill_open : (d : Dir) (f : Option Fill) → FillKept v d f → fills_open f line ≡ false → FillSame v (overwritten v w) f
@@ -235,14 +235,14 @@ module _ (v : Shown) (w : Store) where
       shut = holding.kept.shut ∙ ap (λ (x : ℕ). v.protected x) holding.line
 
       abbrev mine : Way
-      mine = worded_way way (place_of w.word) (changed_word w way)
+      mine = worded_way way (offset_of w.word) (changed_word w way)
 
       kept_mine : way.protect ≡ false → WayKept (overwritten v w) (set_of line) mine
       kept_mine o = record {
         set = holding.kept.set;
         inside = holding.kept.inside;
         same =
-            ap (λ (ws : List ℕ). set ws (place_of w.word) (merged w.lanes (get_or ws (place_of w.word) 0) w.value)) (holding.kept.same ∙ ap (line_seen v) holding.line)
+            ap (λ (ws : List ℕ). set ws (offset_of w.word) (merged w.lanes (get_or ws (offset_of w.word) 0) w.value)) (holding.kept.same ∙ ap (line_seen v) holding.line)
             ∙ line_written (sym shut ∙ o)
             ∙ ap (line_seen (overwritten v w)) (sym holding.line);
         legible = holding.kept.legible;
@@ -262,8 +262,8 @@ module _ (v : Shown) (w : Store) where
       hit_changes o = record {
         few = c.few;
         lined = c.lined;
-        ways = ways_put (WayKept (overwritten v w)) t.dir (set_of line) k (option_map (λ (y : Way). worded_way y (place_of w.word) (changed_word w way)) (t.dir.way (set_of line) k)) others
-            (λ y q. given (WayKept (overwritten v w) (set_of line)) mine y (sym (ap (option_map (λ (x : Way). worded_way x (place_of w.word) (changed_word w way))) holding.there) ∙ q) (kept_mine o));
+        ways = ways_put (WayKept (overwritten v w)) t.dir (set_of line) k (option_map (λ (y : Way). worded_way y (offset_of w.word) (changed_word w way)) (t.dir.way (set_of line) k)) others
+            (λ y q. given (WayKept (overwritten v w) (set_of line)) mine y (sym (ap (option_map (λ (x : Way). worded_way x (offset_of w.word) (changed_word w way))) holding.there) ∙ q) (kept_mine o));
         apart = apart_changed t.dir w.word k (changed_word w way) c.apart;
         fill = λ b q.
             still_filling (overwritten v w) t.dir (changed t.dir w.word k (changed_word w way)) b (change_moves_none t.dir w.word k (changed_word w way) b.line)

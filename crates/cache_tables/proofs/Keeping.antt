@@ -2,14 +2,14 @@
 use Rattle.std.proofs.Common.{◌≡◌, ℕ, ◌+◌, ◌*◌, ◌<◌, ◌≤◌, Bool, true, false, cond, ◌&&◌, eqb, List, get_or, Some, None, Option, sym, refl, ap, ◌∙◌, subst, inl, inr, arith}
 use lib.Count.{ones}
 use Rattle.std.proofs.lemmas.Bool.{cases_eq, eq-eqb, eqb-true, eqb-false, and_parts, and_from, cond-true}
-use Rattle.directory.specs.declared.marks.WayNumber.{WayNumber}
+use Rattle.directory.specs.declared.lru.WayNumber.{WayNumber}
 use Rattle.directory.specs.declared.sets.Way.{Way}
 use Rattle.directory.specs.declared.fills.Fill.{Fill}
 use Rattle.directory.specs.Touch.{same_way}
 use Rattle.directory.specs.Sets.{filled_way}
 use Rattle.directory.specs.Dirs.{Dir, set_of, tag_of, put, touched, found, installed}
-use Rattle.port.specs.Memory.{line_of, place_of}
-use Rattle.directory.specs.Ticks.{ticked, ticks_after, next_place, next_word, complete, with_word, fetched_word}
+use Rattle.port.specs.Memory.{line_of, offset_of}
+use Rattle.directory.specs.Ticks.{ticked, ticks_after, next_offset, next_word, complete, with_word, fetched_word}
 use Rattle.directory.proofs.Apart.{apart_installed}
 use Rattle.directory.proofs.Ticking.{next_small, stored_count, stored_ordered, store_adds, ticked_all}
 use Rattle.cache_tables.specs.Showing.{Shown, line_seen, whole}
@@ -76,7 +76,7 @@ install_fill v d f b ws c inside shut absent same legible =
 -- ---- one word comes
 
 module _ (v : Shown) (d : Dir) (b : Fill) (h : Filling v d b) where
-  pub next_below : next_place b < 8
+  pub next_below : next_offset b < 8
   next_below = next_small b h.under
 
   pub next_inside : next_word b < v.words
@@ -108,17 +108,17 @@ module _ (v : Shown) (d : Dir) (b : Fill) (h : Filling v d b) where
     module _ (full : ones (with_word b (v.word (next_word b))).ticks ≡ 8) where
       all_ticked : (p : ℕ) → p < 8 → ticked (with_word b (v.word (next_word b))).ticks p ≡ true
       all_ticked p hp =
-          ap (λ (x : ℕ). ticked x p) ((stored_ordered b h.under (v.word (next_word b))).order ∙ ap (ticks_after b.first) full) ∙ ticked_all b.first p h.under.ordered.place hp
+          ap (λ (x : ℕ). ticked x p) ((stored_ordered b h.under (v.word (next_word b))).order ∙ ap (ticks_after b.first) full) ∙ ticked_all b.first p h.under.ordered.offset hp
 
       sees_all : (p : ℕ) → p < 8 → Sees v (b.line * 8 + p) (get_or (with_word b (v.word (next_word b))).words p 0)
       sees_all p hp =
           let b' = with_word b (v.word (next_word b)) in
           let at : line_of (b.line * 8 + p) ≡ b.line = omega arith in
-          let place : place_of (b.line * 8 + p) ≡ p = omega arith in
+          let offset : offset_of (b.line * 8 + p) ≡ p = omega arith in
           got_more (b.line * 8 + p) (get_or b'.words p 0)
-          (cond-true (eqb b.line (line_of (b.line * 8 + p)) && ticked b'.ticks (place_of (b.line * 8 + p))) _ None
-          (and_from _ _ (eq-eqb b.line (line_of (b.line * 8 + p)) (sym at)) (ap (ticked b'.ticks) place ∙ all_ticked p hp))
-          ∙ ap (λ (q : ℕ). Some (get_or b'.words q 0)) place)
+          (cond-true (eqb b.line (line_of (b.line * 8 + p)) && ticked b'.ticks (offset_of (b.line * 8 + p))) _ None
+          (and_from _ _ (eq-eqb b.line (line_of (b.line * 8 + p)) (sym at)) (ap (ticked b'.ticks) offset ∙ all_ticked p hp))
+          ∙ ap (λ (q : ℕ). Some (get_or b'.words q 0)) offset)
 
       pub words_full : (with_word b (v.word (next_word b))).words ≡ line_seen v b.line
       words_full = eight_is _ (λ p. v.word (b.line * 8 + p)) (stored_ordered b h.under (v.word (next_word b))).sized (λ p hp. (sees_all p hp).1)
@@ -128,7 +128,7 @@ module _ (v : Shown) (d : Dir) (b : Fill) (h : Filling v d b) where
 
 -- a word that cannot be read
 pub not_whole : (v : Shown) (d : Dir) (b : Fill) → Filling v d b → v.readable (next_word b) ≡ false → whole v b.line ≡ false
-not_whole v d b h e = not_all (λ p. v.readable (b.line * 8 + p)) 8 (next_place b) (next_below v d b h) e
+not_whole v d b h e = not_all (λ p. v.readable (b.line * 8 + p)) 8 (next_offset b) (next_below v d b h) e
 
 -- one word fetched: the tables stay coherent, to finish them comes to the same, and fewer words are lacking
 module _ (v : Shown) (d : Dir) (b : Fill) (c : Coherent v (record { dir = d; fill = Some b })) where

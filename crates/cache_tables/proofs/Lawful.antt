@@ -3,7 +3,7 @@ use Rattle.std.proofs.Common.{◌≡◌, ℕ, zero, suc, ◌≤◌, Bool, true, 
 use Rattle.std.specs.Option.{option_map_or}
 use Rattle.port.specs.declared.Store.{Store}
 use Rattle.port.specs.Steps.{reads}
-use Rattle.directory.specs.declared.marks.WayNumber.{WayNumber}
+use Rattle.directory.specs.declared.lru.WayNumber.{WayNumber}
 use Rattle.directory.specs.declared.sets.Way.{Way}
 use Rattle.directory.specs.declared.fills.Fill.{Fill}
 use Rattle.directory.specs.Touch.{victim_of}
@@ -59,10 +59,10 @@ gone v t line c = record {
   buffer = λ b e. (left_some line t.fill b e).1;
   way = (drop_forgets t.dir line c.apart).gone;
   others = (drop_forgets t.dir line c.apart).others;
-  marks = by_answer (found t.dir line);
+  lru = by_answer (found t.dir line);
 }
   where
-    by_answer : (o : Option WayNumber) → (dropped_of t.dir line o).marks ≡ t.dir.marks
+    by_answer : (o : Option WayNumber) → (dropped_of t.dir line o).lru ≡ t.dir.lru
     by_answer None = refl
     by_answer (Some k) = refl
 
@@ -107,7 +107,7 @@ touch_spares_it : (t : Model) (w : ℕ) (o : Option WayNumber) → found t.dir (
 touch_spares_it t w None e k h = absurd (cc)
 touch_spares_it t w (Some j) e k h =
     let same : j ≡ k = cc in
-    subst (λ (n : WayNumber). victim_of ((touched t.dir (set_of (line_of w)) j).marks (set_of (line_of w))) ≢ n) same (touch_spares t.dir (set_of (line_of w)) j)
+    subst (λ (n : WayNumber). victim_of ((touched t.dir (set_of (line_of w)) j).lru (set_of (line_of w))) ≢ n) same (touch_spares t.dir (set_of (line_of w)) j)
 
 module _ (v : Shown) (t : Model) (w : ℕ) where
   begun_dir : (d : Dir) → (begun v d w).dir ≡ d

@@ -30,7 +30,7 @@ all_from g (suc n) a = and_from (g n) (all_below g n) (a n (omega arith)) (all_f
 pub not_all : (g : ℕ → Bool) (n p : ℕ) → p < n → g p ≡ false → all_below g n ≡ false
 not_all g n p h e = elim (cases_Bool (all_below g n)) [ inl y ↦ absurd (both_ways (g p) e (all_at g n y p h)) | inr x ↦ x ]
 
--- a list of eight is the one that it agrees with at each place
+-- a list of eight is the one that it agrees with at each index
 pub eight_is : (ws : List ℕ) (f : ℕ → ℕ) → length ws ≡ 8 → ((p : ℕ) → p < 8 → get_or ws p 0 ≡ f p) → ws ≡ eight f
 eight_is ws f l a = ext_get_or 0 ws (eight f) l (λ p h. let hp : p < 8 = omega arith in a p hp ∙ sym (eight_at f p hp))
 

@@ -7,9 +7,9 @@ use lib.Bits.{bit_xor}
 use lib.Count.{ones, ones_in}
 use Rattle.std.proofs.lemmas.Bool.{eqb-true, and_right, cond-false}
 use Rattle.fault.specs.declared.Fault.{Fault}
-use Rattle.port.specs.Memory.{State, line_of, place_of}
+use Rattle.port.specs.Memory.{State, line_of, offset_of}
 use Rattle.port.specs.Meaning.{Settles, marks_answer, within}
-use Rattle.directory.specs.declared.marks.WayNumber.{WayNumber}
+use Rattle.directory.specs.declared.lru.WayNumber.{WayNumber}
 use Rattle.directory.specs.declared.sets.Way.{Way}
 use Rattle.directory.specs.declared.fills.Fill.{Fill}
 use Rattle.std.specs.Option.{option_map}
@@ -48,12 +48,12 @@ held_line v t l k c = by_way (t.dir.way (set_of l) k) refl
     by_way None e f = absurd (cc)
     by_way (Some y) e f = record { way = y; there = e; kept = c.ways (set_of l) k y e; line = ap (λ (x : ℕ). x * 256 + set_of l) (eqb-true y.tag (tag_of l) f) ∙ line_set l }
 
-kept_sees : (v : Shown) (i : ℕ) (y : Way) (w : ℕ) → WayKept v i y → line_in i y ≡ line_of w → Sees v w (get_or y.words (place_of w) 0)
+kept_sees : (v : Shown) (i : ℕ) (y : Way) (w : ℕ) → WayKept v i y → line_in i y ≡ line_of w → Sees v w (get_or y.words (offset_of w) 0)
 kept_sees v i y w h e =
-    let hp : place_of w < 8 = omega arith in
-    let at : line_in i y * 8 + place_of w ≡ w = ap (λ (l : ℕ). l * 8 + place_of w) e ∙ line_word w in (
-      ap (λ (a : ℕ). v.readable a) (sym at) ∙ all_at (λ p. v.readable (line_in i y * 8 + p)) 8 h.legible (place_of w) hp,
-      ap (λ (ws : List ℕ). get_or ws (place_of w) 0) h.same ∙ eight_at (λ p. v.word (line_in i y * 8 + p)) (place_of w) hp ∙ ap (λ (a : ℕ). v.word a) at,
+    let hp : offset_of w < 8 = omega arith in
+    let at : line_in i y * 8 + offset_of w ≡ w = ap (λ (l : ℕ). l * 8 + offset_of w) e ∙ line_word w in (
+      ap (λ (a : ℕ). v.readable a) (sym at) ∙ all_at (λ p. v.readable (line_in i y * 8 + p)) 8 h.legible (offset_of w) hp,
+      ap (λ (ws : List ℕ). get_or ws (offset_of w) 0) h.same ∙ eight_at (λ p. v.word (line_in i y * 8 + p)) (offset_of w) hp ∙ ap (λ (a : ℕ). v.word a) at,
     )
 
 pub hit_sees : (v : Shown) (t : Model) (w x : ℕ) → Coherent v t → Some x ≡ hit t.dir w → Sees v w x
@@ -63,8 +63,8 @@ hit_sees v t w x c = by_answer (found t.dir (line_of w)) refl
     by_answer None y e = absurd (cc)
     by_answer (Some k) y e =
         let q = held_line v t (line_of w) k c (held t.dir (line_of w) k y) in
-        let value : Some x ≡ Some (get_or q.way.words (place_of w) 0) = e ∙ ap (option_map (λ (z : Way). get_or z.words (place_of w) 0)) q.there in
-        let same : x ≡ get_or q.way.words (place_of w) 0 = cc in
+        let value : Some x ≡ Some (get_or q.way.words (offset_of w) 0) = e ∙ ap (option_map (λ (z : Way). get_or z.words (offset_of w) 0)) q.there in
+        let same : x ≡ get_or q.way.words (offset_of w) 0 = cc in
         let sees = kept_sees v (set_of (line_of w)) q.way w q.kept q.line in
         (sees.0, same ∙ sees.1)
 
@@ -79,7 +79,7 @@ hit_keeps v t w c = by_answer (found t.dir (line_of w))
 pub none_found : (d : Dir) (w : ℕ) → None ≡ hit d w → found d (line_of w) ≡ None
 none_found d w = by_answer (found d (line_of w)) refl
   where
-    by_way : (o : Option Way) → has_tag (tag_of (line_of w)) o ≡ true → None ≡ option_map (λ (y : Way). get_or y.words (place_of w) 0) o → ⊥
+    by_way : (o : Option Way) → has_tag (tag_of (line_of w)) o ≡ true → None ≡ option_map (λ (y : Way). get_or y.words (offset_of w) 0) o → ⊥
     by_way None f e = cc
     by_way (Some y) f e = cc
 
@@ -101,11 +101,11 @@ nothing_ticked p = ap (λ (x : ℕ). eqb x 1) (bit_at-zero p)
 
 nothing_fetched : (w : ℕ) (k : WayNumber) (p : Bool) (a x : ℕ) → fetched_word (starting w k p) a ≡ Some x → ⊥
 nothing_fetched w k p a x e =
-    let none : fetched_word (starting w k p) a ≡ None = cond-false (eqb (line_of w) (line_of a) && ticked 0 (place_of a)) _ None (and_right (eqb (line_of w) (line_of a)) (ticked 0 (place_of a)) (nothing_ticked (place_of a))) in
+    let none : fetched_word (starting w k p) a ≡ None = cond-false (eqb (line_of w) (line_of a) && ticked 0 (offset_of a)) _ None (and_right (eqb (line_of w) (line_of a)) (ticked 0 (offset_of a)) (nothing_ticked (offset_of a))) in
     absurd (cc)
 
 starts_there : (w : ℕ) (k : WayNumber) (p : Bool) → next_word (starting w k p) ≡ w
-starts_there w k p = ap (λ (x : ℕ). line_of w * 8 + x) (ap (bit_xor (place_of w)) ones_zero ∙ xor_zero_r (place_of w)) ∙ line_word w
+starts_there w k p = ap (λ (x : ℕ). line_of w * 8 + x) (ap (bit_xor (offset_of w)) ones_zero ∙ xor_zero_r (offset_of w)) ∙ line_word w
 
 module _ (v : Shown) (d : Dir) (w : ℕ) (c : Coherent v (idle d)) (inside : w < v.words) (absent : found d (line_of w) ≡ None) where
   begin_fill : (k : WayNumber) → v.cacheable (line_of w) ≡ true → Filling v d (starting w k (v.protected (line_of w)))
@@ -126,7 +126,7 @@ module _ (v : Shown) (d : Dir) (w : ℕ) (c : Coherent v (idle d)) (inside : w <
       by_tests false k er ek = c
       by_tests true false er ek = c
       by_tests true true er ek =
-          let n = victim_of (d.marks (set_of (line_of w))) in
+          let n = victim_of (d.lru (set_of (line_of w))) in
           let b = starting w n (v.protected (line_of w)) in
           let h = begin_fill n ek in
           let at = starts_there w n (v.protected (line_of w)) in

@@ -2,7 +2,7 @@
 use Rattle.std.specs.Prelude.{◌≡◌, ℕ, ◌+◌, Bool, true, false, not, [], ◌∷◌, Some, None, Ok, Err, ◌==◌}
 use Rattle.port.specs.Meaning.{unreadable}
 use Rattle.port.specs.Steps.{Step, reads, advances}
-use Rattle.directory.specs.declared.marks.WayNumber.TheVariants.{Zero}
+use Rattle.directory.specs.declared.lru.WayNumber.TheVariants.{Zero}
 use Rattle.directory.specs.Dirs.{found}
 use Rattle.cache_tables.specs.Showing.{Shown}
 use Rattle.cache_tables.specs.Rules.{Model, cleared, dropped, read_turn, advance_turn}

@@ -4,7 +4,7 @@ use Rattle.fault.specs.declared.Fault.{Fault}
 use Rattle.port.specs.declared.Store.{Store}
 use Rattle.port.specs.Memory.{State, line_of}
 use Rattle.port.specs.Meaning.{Settles}
-use Rattle.directory.specs.declared.marks.WayNumber.{WayNumber}
+use Rattle.directory.specs.declared.lru.WayNumber.{WayNumber}
 use Rattle.directory.specs.declared.fills.Fill.{Fill}
 use Rattle.directory.specs.Touch.{victim_of}
 use Rattle.directory.specs.Dirs.{Dir, set_of, found}
@@ -26,9 +26,9 @@ pub record AnswersAreSeen (v : Shown) (t : Model) : Type 0 where
 pub record NamedAtTheMiss (v : Shown) (d : Dir) (w : ℕ) (b : Fill) : Type 0 where
   pub cached : v.cacheable (line_of w) ≡ true
   pub line : b.line ≡ line_of w
-  pub way : b.way ≡ victim_of (d.marks (set_of (line_of w)))
+  pub way : b.way ≡ victim_of (d.lru (set_of (line_of w)))
 
--- It goes on with that line and that way, whatever the marks have become.
+-- It goes on with that line and that way, whatever the LRU bits have become.
 pub record SameLineAndWay (b c : Fill) : Type 0 where
   pub line : c.line ≡ b.line
   pub way : c.way ≡ b.way
@@ -45,14 +45,14 @@ pub record LandsWhereNamed (v : Shown) (t : Model) (b : Fill) : Type 0 where
 
 -- Whichever way holds the word's line is not the next victim of its set.
 abbrev pub HolderIsSpared : Model → ℕ → Type 0
-HolderIsSpared t w = (k : WayNumber) → found t.dir (line_of w) ≡ Some k → victim_of (t.dir.marks (set_of (line_of w))) ≢ k
+HolderIsSpared t w = (k : WayNumber) → found t.dir (line_of w) ≡ Some k → victim_of (t.dir.lru (set_of (line_of w))) ≢ k
 
--- A line that was dropped is under no fill and in no way; the other lines are where they were, and so are the marks.
+-- A line that was dropped is under no fill and in no way; the other lines are where they were, and so are the LRU bits.
 pub record LineIsGone (before after : Model) (line : ℕ) : Type 0 where
   pub buffer : (b : Fill) → after.fill ≡ Some b → b.line ≢ line
   pub way : found after.dir line ≡ None
   pub others : (other : ℕ) → other ≢ line → found after.dir other ≡ found before.dir other
-  pub marks : after.dir.marks ≡ before.dir.marks
+  pub lru : after.dir.lru ≡ before.dir.lru
 
 pub record CachingIsLawful : Type 0 where
   pub unseen : SettlingNeverShows

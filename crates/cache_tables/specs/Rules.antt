@@ -5,12 +5,12 @@ use Rattle.fault.specs.declared.Fault.{Fault}
 use Rattle.port.specs.declared.Store.{Store}
 use Rattle.port.specs.Lanes.{merged}
 use Rattle.port.specs.Steps.{Step, reads, writes, advances, outsides, snoops, flushes}
-use Rattle.directory.specs.declared.marks.WayNumber.{WayNumber}
+use Rattle.directory.specs.declared.lru.WayNumber.{WayNumber}
 use Rattle.directory.specs.declared.sets.Way.{Way}
 use Rattle.directory.specs.declared.fills.Fill.{Fill}
 use Rattle.directory.specs.Touch.{victim_of}
 use Rattle.directory.specs.Dirs.{Dir, set_of, emptied, touched, found, installed, changed}
-use Rattle.port.specs.Memory.{line_of, place_of}
+use Rattle.port.specs.Memory.{line_of, offset_of}
 use Rattle.directory.specs.Dirs.{dropped as dropped_dir}
 use Rattle.directory.specs.Ticks.{next_word, complete, starting, with_word, fetched_word}
 use Rattle.directory.specs.View.{view}
@@ -29,7 +29,7 @@ model t = record { dir = view t.directory; fill = t.fill }
 abbrev pub idle : Dir → Model
 idle d = record { dir = d; fill = None }
 
--- A fresh or flushed cache: no valid way, no mark, no fill.
+-- A fresh or flushed cache: no valid way, no LRU bit set, no fill.
 abbrev pub cleared : Model
 cleared = idle emptied
 
@@ -92,7 +92,7 @@ buffered_of (Some b) w = fetched_word b w
 -- A way that holds the word's line answers, and is touched.
 abbrev pub hit_of : Dir → ℕ → Option WayNumber → Option ℕ
 hit_of d w None = None
-hit_of d w (Some k) = option_map (λ y. slice_index y.words (place_of w)) (d.way (set_of (line_of w)) k)
+hit_of d w (Some k) = option_map (λ y. slice_index y.words (offset_of w)) (d.way (set_of (line_of w)) k)
 
 abbrev pub hit : Dir → ℕ → Option ℕ
 hit d w = hit_of d w (found d (line_of w))
@@ -106,7 +106,7 @@ touched_by t w = touched_of t w (found t.dir (line_of w))
 
 -- A miss: the word is read below, and if its line may be cached, a fill begins with it, and with the victim of this moment.
 abbrev pub begun_fill : Dir → ℕ → Bool → ℕ → Fill
-begun_fill d w protect value = with_word (starting w (victim_of (d.marks (set_of (line_of w)))) protect) value
+begun_fill d w protect value = with_word (starting w (victim_of (d.lru (set_of (line_of w)))) protect) value
 
 abbrev pub begun : Shown → Dir → ℕ → Model
 begun v d w =
@@ -127,7 +127,7 @@ read_turn v t w =
     (option_map_or (λ _. turn (touched_by t w) []) (hit t.dir w)
     (read_after v (finish_turn v t) w))
 
--- A line leaves the tables: its fill is abandoned and its way becomes invalid; the marks stay.
+-- A line leaves the tables: its fill is abandoned and its way becomes invalid; the LRU bits stay.
 abbrev pub left_of : ℕ → Option Fill → Option Fill
 left_of line None = None
 left_of line (Some b) = cond (b.line == line) None (Some b)
@@ -137,7 +137,7 @@ dropped t line = record { dir = dropped_dir t.dir line; fill = left_of line t.fi
 
 -- A write to the way that holds its line: the way is touched, and the lanes change unless the line is protected.
 abbrev pub changed_word : Store → Way → ℕ
-changed_word w y = merged w.lanes (slice_index y.words (place_of w.word)) w.value
+changed_word w y = merged w.lanes (slice_index y.words (offset_of w.word)) w.value
 
 abbrev pub changed_way : Dir → Store → WayNumber → Option Way → Dir
 changed_way d w k None = d
@@ -169,7 +169,7 @@ write_turn v t w r =
 abbrev pub advance_turn : Shown → Model → Turn
 advance_turn v t = turn (fetched v t) (fetch_calls v t.fill ++ (advances ∷ []))
 
--- A snoop or an outside write drops its word's line, a flush all lines, all marks and the fill; each is passed on.
+-- A snoop or an outside write drops its word's line, a flush all lines, all LRU bits and the fill; each is passed on.
 abbrev pub snoop_turn : Model → ℕ → Result (Unit {0}) Fault → Turn
 snoop_turn t w r = turn (dropped t (line_of w)) (snoops w r ∷ [])
 

@@ -15,7 +15,7 @@ pub struct Tables {
 }
 
 impl Tables {
-    /// Tables with no valid way, no mark and no fill.
+    /// Tables with no valid way, no LRU bit set and no fill.
     pub fn new() -> Tables
         ensures { model result ≡ cleared }
     {
@@ -111,7 +111,7 @@ impl Tables {
         self.directory.drop_line(line);
     }
 
-    /// Empties all ways, clears all marks, and abandons the fill.
+    /// Empties all ways, clears all LRU bits, and abandons the fill.
     pub fn clear(&mut self)
         ensures { model self.new ≡ cleared }
     {

@@ -10,7 +10,7 @@ use port::Store;
 /// The most bytes a list may have.
 pub const MOST_BYTES: usize = 16_384;
 
-/// Reads a list's calls one by one, and keeps its place among the list words.
+/// Reads a list's calls one by one, and keeps its position among the list words.
 #[derive(Drop)]
 pub struct Reader<'a> {
     bytes: &'a [u8],

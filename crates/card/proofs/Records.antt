@@ -4,7 +4,7 @@ use Rattle.std.specs.Result.{result_and}
 use Rattle.fault.specs.declared.Fault.{Fault}
 use Rattle.calls.specs.declared.call.Call.{Call}
 use Rattle.port.specs.declared.Store.{Store}
-use Rattle.port.specs.Memory.{State, line_of, raised, place_of}
+use Rattle.port.specs.Memory.{State, line_of, raised, offset_of}
 use Rattle.port.specs.Steps.{Step, reads, writes, advances, outsides, snoops, flushes, Chain, done, then, Drains, empty, more}
 use Rattle.write_buffer.specs.Buffering.{buffered}
 use Rattle.banks.specs.declared.line.Line.{Line}
@@ -48,7 +48,7 @@ written_differ ls w false =
       count = length-set ls i new;
       cacheable = λ k. kept_in_list (λ l. l.cacheable) ls i k new refl;
       protect = λ k. kept_in_list (λ l. l.protect) ls i k new refl;
-      readable = λ a. kept_in_list (λ l. get_or l.readable (place_of a) false) ls i (line_of a) new refl;
+      readable = λ a. kept_in_list (λ l. get_or l.readable (offset_of a) false) ls i (line_of a) new refl;
     }
 
 -- THROUGH THE BANK AND THE MAP

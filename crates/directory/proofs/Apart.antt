@@ -3,20 +3,20 @@ use Rattle.std.proofs.Common.{◌≡◌, ℕ, Bool, true, false, not, ◌&&◌, 
 use Rattle.std.proofs.lemmas.Bool.{cases_eq, cases_Bool, eq-eqb, ne_eqb, cond-true, cond-false, and_left, and_right, not_from_true, both_ways}
 use Rattle.std.proofs.lemmas.Bool.Decides.{nat_tests}
 use Rattle.std.specs.Option.{option_map}
-use Rattle.directory.specs.declared.marks.WayNumber.{WayNumber}
-use Rattle.directory.specs.declared.marks.WayNumber.TheVariants.{Zero, One, Two, Three}
+use Rattle.directory.specs.declared.lru.WayNumber.{WayNumber}
+use Rattle.directory.specs.declared.lru.WayNumber.TheVariants.{Zero, One, Two, Three}
 use Rattle.directory.specs.declared.sets.Way.{Way}
 use Rattle.directory.specs.Touch.{index_of, same_way, every_way}
 use Rattle.directory.specs.Sets.{filled_way, worded_way, has_tag}
 use Rattle.directory.specs.Dirs.{Dir, set_of, tag_of, emptied, put, holds, found, installed, dropped_of, dropped, changed, twin_ways}
-use Rattle.port.specs.Memory.{line_of, place_of}
+use Rattle.port.specs.Memory.{line_of, offset_of}
 use Rattle.directory.specs.Laws.{TagsAreApart, OneWayHoldsALine, InstallKeepsOtherLines, DropForgetsOneLine, ChangeMovesNoLine}
 use Rattle.directory.proofs.Numbering.{index_injective}
 
 twin_sym : (x y : Option Way) → twin_ways x y ≡ false → twin_ways y x ≡ false
 twin_sym x y e = grind (arith, nat_tests)
 
--- a way after another, or the same, was put in its place
+-- a way after another, or the same, was put in its offset
 module _ (d : Dir) (i : ℕ) (k : WayNumber) (w : Option Way) where
   pub put_here : (j : ℕ) (l : WayNumber) → j ≡ i → index_of l ≡ index_of k → (put d i k w).way j l ≡ w
   put_here j l e f = grind (arith, nat_tests)
@@ -106,15 +106,15 @@ apart_installed d line k protect words a e =
 pub apart_dropped : (d : Dir) (line : ℕ) (k : WayNumber) → TagsAreApart d → TagsAreApart (put d (set_of line) k None)
 apart_dropped d line k a = apart_put d (set_of line) k None a (λ l _. refl)
 
-twin_worded : (x y : Option Way) (place value : ℕ) → twin_ways x y ≡ false → twin_ways (option_map (λ w. worded_way w place value) x) y ≡ false
-twin_worded None y place value e = refl
-twin_worded (Some x) None place value e = refl
-twin_worded (Some x) (Some y) place value e = e
+twin_worded : (x y : Option Way) (offset value : ℕ) → twin_ways x y ≡ false → twin_ways (option_map (λ w. worded_way w offset value) x) y ≡ false
+twin_worded None y offset value e = refl
+twin_worded (Some x) None offset value e = refl
+twin_worded (Some x) (Some y) offset value e = e
 
 pub apart_changed : (d : Dir) (word : ℕ) (k : WayNumber) (value : ℕ) → TagsAreApart d → TagsAreApart (changed d word k value)
 apart_changed d word k value a =
-    apart_put d (set_of (line_of word)) k (option_map (λ w. worded_way w (place_of word) value) (d.way (set_of (line_of word)) k)) a
-    (λ l n. twin_worded (d.way (set_of (line_of word)) k) (d.way (set_of (line_of word)) l) (place_of word) value
+    apart_put d (set_of (line_of word)) k (option_map (λ w. worded_way w (offset_of word) value) (d.way (set_of (line_of word)) k)) a
+    (λ l n. twin_worded (d.way (set_of (line_of word)) k) (d.way (set_of (line_of word)) l) (offset_of word) value
     (let t = a (set_of (line_of word)) k l in grind (arith, nat_tests)))
 
 -- ---- the law of an install
@@ -182,9 +182,9 @@ module _ (d : Dir) (line : ℕ) (a : TagsAreApart d) where
 
 -- ---- the law of a change
 
-tag_worded : (x : Option Way) (place value tag : ℕ) → has_tag tag (option_map (λ w. worded_way w place value) x) ≡ has_tag tag x
-tag_worded None place value tag = refl
-tag_worded (Some x) place value tag = refl
+tag_worded : (x : Option Way) (offset value tag : ℕ) → has_tag tag (option_map (λ w. worded_way w offset value) x) ≡ has_tag tag x
+tag_worded None offset value tag = refl
+tag_worded (Some x) offset value tag = refl
 
 module _ (d : Dir) (word : ℕ) (k : WayNumber) (value : ℕ) where
   same_holds : (line : ℕ) (j : WayNumber) → holds (changed d word k value) line j ≡ holds d line j
@@ -194,13 +194,13 @@ module _ (d : Dir) (word : ℕ) (k : WayNumber) (value : ℕ) where
         | inl e ↦ elim (cases_eq (index_of j) (index_of k)) [
           | inr jn ↦ ap (has_tag (tag_of line)) (put_other_way d (set_of (line_of word)) k w (set_of line) j jn)
           | inl jk ↦ ap (has_tag (tag_of line)) (put_here d (set_of (line_of word)) k w (set_of line) j e jk)
-              ∙ tag_worded (d.way (set_of (line_of word)) k) (place_of word) value (tag_of line)
+              ∙ tag_worded (d.way (set_of (line_of word)) k) (offset_of word) value (tag_of line)
               ∙ sym (ap₂ (λ (i : ℕ) (l : WayNumber). has_tag (tag_of line) (d.way i l)) e (index_injective j k jk))
         ]
       ]
     where
       w : Option Way
-      w = option_map (λ x. worded_way x (place_of word) value) (d.way (set_of (line_of word)) k)
+      w = option_map (λ x. worded_way x (offset_of word) value) (d.way (set_of (line_of word)) k)
 
   pub change_moves_none : ChangeMovesNoLine d (changed d word k value)
   change_moves_none line = λ n. find (λ j. same_holds line j n) every_way

@@ -1,11 +1,11 @@
 -- The directory once one of its sets is written, as the code writes it: i is the set's number as computed, s the set as left.
 use Rattle.std.proofs.Common.{◌≡◌, ℕ, ◌<◌, Bool, List, length, get_or, set, Some, None, sym, ap, ◌∙◌, subst}
 use Rattle.std.specs.Option.{option_map}
-use Rattle.directory.specs.declared.marks.WayNumber.{WayNumber}
+use Rattle.directory.specs.declared.lru.WayNumber.{WayNumber}
 use Rattle.directory.specs.declared.sets.SetRecord.{SetRecord}
 use Rattle.directory.specs.Sets.{no_set, filled_way, worded_way, way_in, touched_set, put_set, installed_set}
 use Rattle.directory.specs.Dirs.{Dir, set_of, tag_of, view_of, put, touched, installed, dropped, changed, found}
-use Rattle.port.specs.Memory.{line_of, place_of}
+use Rattle.port.specs.Memory.{line_of, offset_of}
 use Rattle.directory.specs.Laws.{TagsAreApart, InstallKeepsOtherLines, DropForgetsOneLine, ChangeMovesNoLine}
 use Rattle.directory.proofs.Views.{view_touched, view_put, view_installed}
 use Rattle.directory.proofs.Apart.{install_keeps, drop_forgets, change_moves_none}
@@ -29,11 +29,11 @@ module _ (sets : List SetRecord) (i : ℕ) (k : WayNumber) (s : SetRecord) (h : 
         ∙ view_put sets i k h None wide
         ∙ ap (λ (n : ℕ). put (view_of sets) n k None) e
 
-  pub after_change : (word value : ℕ) → i ≡ set_of (line_of word) → length (get_or sets i no_set).ways ≡ 4 → s ≡ put_set (get_or sets i no_set) k (option_map (λ w. worded_way w (place_of word) value) (way_in (get_or sets i no_set) k)) → view_of (set sets i s) ≡ changed (view_of sets) word k value
+  pub after_change : (word value : ℕ) → i ≡ set_of (line_of word) → length (get_or sets i no_set).ways ≡ 4 → s ≡ put_set (get_or sets i no_set) k (option_map (λ w. worded_way w (offset_of word) value) (way_in (get_or sets i no_set) k)) → view_of (set sets i s) ≡ changed (view_of sets) word k value
   after_change word value e wide f =
       ap (λ (t : SetRecord). view_of (set sets i t)) f
-      ∙ view_put sets i k h (option_map (λ w. worded_way w (place_of word) value) (way_in (get_or sets i no_set) k)) wide
-      ∙ ap (λ (n : ℕ). put (view_of sets) n k (option_map (λ w. worded_way w (place_of word) value) (way_in (get_or sets n no_set) k))) e
+      ∙ view_put sets i k h (option_map (λ w. worded_way w (offset_of word) value) (way_in (get_or sets i no_set) k)) wide
+      ∙ ap (λ (n : ℕ). put (view_of sets) n k (option_map (λ w. worded_way w (offset_of word) value) (way_in (get_or sets n no_set) k))) e
 
 -- a directory that equals another is as good
 pub apart_as : (d e : Dir) → d ≡ e → TagsAreApart e → TagsAreApart d

@@ -4,5 +4,4 @@ pub mod Views
 pub mod Apart
 pub mod Changing
 pub mod Looking
-pub mod Trying
 pub mod Sparing

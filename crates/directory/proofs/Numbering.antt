@@ -1,7 +1,7 @@
 -- A way is told by where it stands in its set.
 use Rattle.std.proofs.Common.{◌≡◌, ℕ, ◌<◌, cond, eqb, sym, refl, ap, ◌∙◌, arith}
-use Rattle.directory.specs.declared.marks.WayNumber.{WayNumber}
-use Rattle.directory.specs.declared.marks.WayNumber.TheVariants.{Zero, One, Two, Three}
+use Rattle.directory.specs.declared.lru.WayNumber.{WayNumber}
+use Rattle.directory.specs.declared.lru.WayNumber.TheVariants.{Zero, One, Two, Three}
 use Rattle.directory.specs.Touch.{index_of}
 
 abbrev way_at : ℕ → WayNumber

@@ -1,9 +1,9 @@
 -- The way just touched is not the next victim.
 use Rattle.std.proofs.Common.{ℕ, Bool, true, false, cond, eqb, ◌≢◌, sym, refl, ap, ◌∙◌}
 use Rattle.std.proofs.lemmas.Bool.{cond-true, eq-eqb}
-use Rattle.directory.specs.declared.marks.WayNumber.{WayNumber}
-use Rattle.directory.specs.declared.marks.WayNumber.TheVariants.{Zero, One, Two, Three}
-use Rattle.directory.specs.Touch.{touched_marks, victim_of}
+use Rattle.directory.specs.declared.lru.WayNumber.{WayNumber}
+use Rattle.directory.specs.declared.lru.WayNumber.TheVariants.{Zero, One, Two, Three}
+use Rattle.directory.specs.Touch.{touched_bits, victim_of}
 use Rattle.directory.specs.Dirs.{Dir, touched}
 use Rattle.directory.specs.Laws.{TouchedWayIsSpared}
 
@@ -18,6 +18,6 @@ touched_is_spared m Two = neither m.m1 One Zero Two (λ e. absurd (cc)) (λ e. a
 touched_is_spared m Three = neither m.m1 One Zero Three (λ e. absurd (cc)) (λ e. absurd (cc))
 
 -- the same of a set of a directory
-pub touch_spares : (d : Dir) (i : ℕ) (k : WayNumber) → victim_of ((touched d i k).marks i) ≢ k
+pub touch_spares : (d : Dir) (i : ℕ) (k : WayNumber) → victim_of ((touched d i k).lru i) ≢ k
 touch_spares d i k e =
-    touched_is_spared (d.marks i) k (sym (ap victim_of (cond-true (eqb i i) (touched_marks (d.marks i) k) (d.marks i) (eq-eqb i i refl))) ∙ e)
+    touched_is_spared (d.lru i) k (sym (ap victim_of (cond-true (eqb i i) (touched_bits (d.lru i) k) (d.lru i) (eq-eqb i i refl))) ∙ e)

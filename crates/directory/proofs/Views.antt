@@ -3,11 +3,11 @@ use Rattle.std.proofs.Common.{◌≡◌, ℕ, ◌<◌, Bool, true, false, cond, 
 use Rattle.std.proofs.lemmas.List.{get_or-set_same, get_or-set_other, get_or-replicate, get_or_past}
 use Rattle.std.proofs.lemmas.Bool.Decides.{nat_tests}
 use Rattle.std.proofs.lemmas.Bool.{cases_eq, cases_lt, eqb-true}
-use Rattle.directory.specs.declared.marks.Marks.{Marks}
-use Rattle.directory.specs.declared.marks.WayNumber.{WayNumber}
+use Rattle.directory.specs.declared.lru.LruBits.{LruBits}
+use Rattle.directory.specs.declared.lru.WayNumber.{WayNumber}
 use Rattle.directory.specs.declared.sets.Way.{Way}
 use Rattle.directory.specs.declared.sets.SetRecord.{SetRecord}
-use Rattle.directory.specs.Touch.{index_of, same_way, no_marks, touched_marks}
+use Rattle.directory.specs.Touch.{index_of, same_way, untouched, touched_bits}
 use Rattle.directory.specs.Sets.{no_set, way_in, touched_set, put_set}
 use Rattle.directory.specs.Dirs.{view_of, emptied, put, touched}
 use Rattle.directory.proofs.Numbering.{index_below}
@@ -26,7 +26,7 @@ nested true true x y z e = refl
 nested true false x y z e = e refl
 nested false b x y z e = refl
 
--- what is asked of a place of a list, after one place is written
+-- what is asked of one index of a list, after one index is written
 at : {A B : Type 0} (f : A → B) (xs : List A) (i : ℕ) (x d : A) → i < length xs → (j : ℕ) → f (get_or (set xs i x) j d) ≡ cond (eqb j i) (f x) (f (get_or xs j d))
 at f xs i x d h j =
     elim (cases_eq j i) [
@@ -38,48 +38,48 @@ module _ (sets : List SetRecord) (i : ℕ) (k : WayNumber) (h : i < length sets)
   here : {B : Type 0} (f : SetRecord → B) (j : ℕ) → eqb j i ≡ true → f (get_or sets i no_set) ≡ f (get_or sets j no_set)
   here f j e = ap (λ (m : ℕ). f (get_or sets m no_set)) (sym (eqb-true j i e))
 
-  ways_kept : (m : Marks) (j : ℕ) (l : WayNumber) → way_in (get_or (set sets i (record { ways = (get_or sets i no_set).ways; marks = m })) j no_set) l ≡ way_in (get_or sets j no_set) l
+  ways_kept : (m : LruBits) (j : ℕ) (l : WayNumber) → way_in (get_or (set sets i (record { ways = (get_or sets i no_set).ways; lru = m })) j no_set) l ≡ way_in (get_or sets j no_set) l
   ways_kept m j l =
-      at (λ s. way_in s l) sets i (record { ways = (get_or sets i no_set).ways; marks = m }) no_set h j
+      at (λ s. way_in s l) sets i (record { ways = (get_or sets i no_set).ways; lru = m }) no_set h j
       ∙ kept (eqb j i) (way_in (get_or sets i no_set) l) (way_in (get_or sets j no_set) l) (here (λ s. way_in s l) j)
 
-  ways_put : (w : Option Way) (m : Marks) → length (get_or sets i no_set).ways ≡ 4 → (j : ℕ) (l : WayNumber) → way_in (get_or (set sets i (record { ways = set (get_or sets i no_set).ways (index_of k) w; marks = m })) j no_set) l ≡ cond (eqb j i && same_way l k) w (way_in (get_or sets j no_set) l)
+  ways_put : (w : Option Way) (m : LruBits) → length (get_or sets i no_set).ways ≡ 4 → (j : ℕ) (l : WayNumber) → way_in (get_or (set sets i (record { ways = set (get_or sets i no_set).ways (index_of k) w; lru = m })) j no_set) l ≡ cond (eqb j i && same_way l k) w (way_in (get_or sets j no_set) l)
   ways_put w m wide j l =
-      at (λ s. way_in s l) sets i (record { ways = set (get_or sets i no_set).ways (index_of k) w; marks = m }) no_set h j
+      at (λ s. way_in s l) sets i (record { ways = set (get_or sets i no_set).ways (index_of k) w; lru = m }) no_set h j
       ∙ ap (λ (x : Option Way). cond (eqb j i) x (way_in (get_or sets j no_set) l)) (at (λ x. x) (get_or sets i no_set).ways (index_of k) w None (omega (arith, index_below k)) (index_of l))
       ∙ nested (eqb j i) (same_way l k) w (way_in (get_or sets j no_set) l) (way_in (get_or sets i no_set) l) (here (λ s. way_in s l) j)
 
-  marks_kept : (ws : List (Option Way)) (j : ℕ) → (get_or (set sets i (record { ways = ws; marks = (get_or sets i no_set).marks })) j no_set).marks ≡ (get_or sets j no_set).marks
-  marks_kept ws j =
-      at (λ s. s.marks) sets i (record { ways = ws; marks = (get_or sets i no_set).marks }) no_set h j
-      ∙ kept (eqb j i) (get_or sets i no_set).marks (get_or sets j no_set).marks (here (λ s. s.marks) j)
+  bits_kept : (ws : List (Option Way)) (j : ℕ) → (get_or (set sets i (record { ways = ws; lru = (get_or sets i no_set).lru })) j no_set).lru ≡ (get_or sets j no_set).lru
+  bits_kept ws j =
+      at (λ s. s.lru) sets i (record { ways = ws; lru = (get_or sets i no_set).lru }) no_set h j
+      ∙ kept (eqb j i) (get_or sets i no_set).lru (get_or sets j no_set).lru (here (λ s. s.lru) j)
 
-  marks_touched : (ws : List (Option Way)) (j : ℕ) → (get_or (set sets i (record { ways = ws; marks = touched_marks (get_or sets i no_set).marks k })) j no_set).marks ≡ cond (eqb j i) (touched_marks (get_or sets j no_set).marks k) (get_or sets j no_set).marks
-  marks_touched ws j =
-      at (λ s. s.marks) sets i (record { ways = ws; marks = touched_marks (get_or sets i no_set).marks k }) no_set h j
-      ∙ chosen (eqb j i) (touched_marks (get_or sets i no_set).marks k) (touched_marks (get_or sets j no_set).marks k) (get_or sets j no_set).marks (here (λ s. touched_marks s.marks k) j)
+  bits_touched : (ws : List (Option Way)) (j : ℕ) → (get_or (set sets i (record { ways = ws; lru = touched_bits (get_or sets i no_set).lru k })) j no_set).lru ≡ cond (eqb j i) (touched_bits (get_or sets j no_set).lru k) (get_or sets j no_set).lru
+  bits_touched ws j =
+      at (λ s. s.lru) sets i (record { ways = ws; lru = touched_bits (get_or sets i no_set).lru k }) no_set h j
+      ∙ chosen (eqb j i) (touched_bits (get_or sets i no_set).lru k) (touched_bits (get_or sets j no_set).lru k) (get_or sets j no_set).lru (here (λ s. touched_bits s.lru k) j)
 
   pub view_touched : view_of (set sets i (touched_set (get_or sets i no_set) k)) ≡ touched (view_of sets) i k
   view_touched = λ n. record {
-    way = λ j l. ways_kept (touched_marks (get_or sets i no_set).marks k) j l n;
-    marks = λ j. marks_touched (get_or sets i no_set).ways j n;
+    way = λ j l. ways_kept (touched_bits (get_or sets i no_set).lru k) j l n;
+    lru = λ j. bits_touched (get_or sets i no_set).ways j n;
   }
 
   pub view_put : (w : Option Way) → length (get_or sets i no_set).ways ≡ 4 → view_of (set sets i (put_set (get_or sets i no_set) k w)) ≡ put (view_of sets) i k w
   view_put w wide = λ n. record {
-    way = λ j l. ways_put w (get_or sets i no_set).marks wide j l n;
-    marks = λ j. marks_kept (set (get_or sets i no_set).ways (index_of k) w) j n;
+    way = λ j l. ways_put w (get_or sets i no_set).lru wide j l n;
+    lru = λ j. bits_kept (set (get_or sets i no_set).ways (index_of k) w) j n;
   }
 
   pub view_installed : (w : Option Way) → length (get_or sets i no_set).ways ≡ 4 → view_of (set sets i (touched_set (put_set (get_or sets i no_set) k w) k)) ≡ touched (put (view_of sets) i k w) i k
   view_installed w wide = λ n. record {
-    way = λ j l. ways_put w (touched_marks (get_or sets i no_set).marks k) wide j l n;
-    marks = λ j. marks_touched (set (get_or sets i no_set).ways (index_of k) w) j n;
+    way = λ j l. ways_put w (touched_bits (get_or sets i no_set).lru k) wide j l n;
+    lru = λ j. bits_touched (set (get_or sets i no_set).ways (index_of k) w) j n;
   }
 
 -- A set whose four ways are invalid, and that was never touched.
 abbrev empty_set : SetRecord
-empty_set = record { ways = replicate 4 None; marks = no_marks }
+empty_set = record { ways = replicate 4 None; lru = untouched }
 
 empty_set_lem : (P : SetRecord → Type 0) → P empty_set → P no_set → (i : ℕ) → P (get_or (replicate 256 empty_set) i no_set)
 empty_set_lem P a b i =
@@ -91,5 +91,5 @@ empty_set_lem P a b i =
 pub view_empty : view_of (replicate 256 empty_set) ≡ emptied
 view_empty = λ n. record {
   way = λ j l. empty_set_lem (λ s. way_in s l ≡ None) (get_or-replicate 4 (index_of l) None None (index_below l)) refl j n;
-  marks = λ j. empty_set_lem (λ s. s.marks ≡ no_marks) refl refl j n;
+  lru = λ j. empty_set_lem (λ s. s.lru ≡ untouched) refl refl j n;
 }

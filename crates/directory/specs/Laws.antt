@@ -1,15 +1,15 @@
 -- What holds of the tables whatever was done to them.
 use Rattle.std.specs.Prelude.{◌≡◌, ℕ, ◌+◌, ◌<◌, true, false, ◌≢◌, Some, None, count_ones}
-use Rattle.directory.specs.declared.marks.Marks.{Marks}
-use Rattle.directory.specs.declared.marks.WayNumber.{WayNumber}
+use Rattle.directory.specs.declared.lru.LruBits.{LruBits}
+use Rattle.directory.specs.declared.lru.WayNumber.{WayNumber}
 use Rattle.directory.specs.declared.fills.Fill.{Fill}
-use Rattle.directory.specs.Touch.{touched_marks, victim_of}
+use Rattle.directory.specs.Touch.{touched_bits, victim_of}
 use Rattle.directory.specs.Dirs.{Dir, set_of, holds, found, twins}
-use Rattle.directory.specs.Ticks.{ticked, tick, place_at, next_word, fetched_word}
+use Rattle.directory.specs.Ticks.{ticked, tick, offset_at, next_word, fetched_word}
 
 -- The way just touched is never the next victim.
 abbrev pub TouchedWayIsSpared : Type 0
-TouchedWayIsSpared = (m : Marks) (k : WayNumber) → victim_of (touched_marks m k) ≢ k
+TouchedWayIsSpared = (m : LruBits) (k : WayNumber) → victim_of (touched_bits m k) ≢ k
 
 -- No two valid ways of a set have the same tag.
 abbrev pub TagsAreApart : Dir → Type 0
@@ -22,10 +22,10 @@ pub record OneWayHoldsALine (d : Dir) : Type 0 where
   pub held : (line : ℕ) (k : WayNumber) → found d line ≡ Some k → holds d line k ≡ true
   pub none : (line : ℕ) → found d line ≡ None → (k : WayNumber) → holds d line k ≡ false
 
--- A touch changes the marks of its set, and nothing else.
-pub record OnlyMarksOfOneSet (before after : Dir) (i : ℕ) : Type 0 where
+-- A touch changes the LRU bits of its set, and nothing else.
+pub record OnlyBitsOfOneSet (before after : Dir) (i : ℕ) : Type 0 where
   pub ways : after.way ≡ before.way
-  pub others : (j : ℕ) → j ≢ i → after.marks j ≡ before.marks j
+  pub others : (j : ℕ) → j ≢ i → after.lru j ≡ before.lru j
 
 -- A line just installed is found in its way, and every other line that was found and not replaced is found where it was.
 pub record InstallKeepsOtherLines (before after : Dir) (line : ℕ) (k : WayNumber) : Type 0 where
@@ -41,19 +41,19 @@ pub record DropForgetsOneLine (before after : Dir) (line : ℕ) : Type 0 where
 abbrev pub ChangeMovesNoLine : Dir → Dir → Type 0
 ChangeMovesNoLine before after = (line : ℕ) → found after line ≡ found before line
 
--- The eight steps of a fill visit each place of the line, and none twice, whatever the first.
-pub record FillVisitsEachPlaceOnce : Type 0 where
-  pub within : (first step : ℕ) → first < 8 → step < 8 → place_at first step < 8
-  pub reached : (first place : ℕ) → first < 8 → place < 8 → (step : ℕ) × (step < 8) × (place_at first step ≡ place)
-  pub once : (first j k : ℕ) → first < 8 → j < 8 → k < 8 → place_at first j ≡ place_at first k → j ≡ k
+-- The eight steps of a fill visit each offset of the line, and none twice, whatever the first.
+pub record FillFetchesEachWordOnce : Type 0 where
+  pub within : (first step : ℕ) → first < 8 → step < 8 → offset_at first step < 8
+  pub reached : (first offset : ℕ) → first < 8 → offset < 8 → (step : ℕ) × (step < 8) × (offset_at first step ≡ offset)
+  pub once : (first j k : ℕ) → first < 8 → j < 8 → k < 8 → offset_at first j ≡ offset_at first k → j ≡ k
 
--- Ticking a new place adds one.
+-- Ticking a new offset adds one.
 abbrev pub NewTickAddsOne : Type 0
-NewTickAddsOne = (ticks place : ℕ) → ticks < 256 → place < 8 → ticked ticks place ≡ false → count_ones (tick ticks place) ≡ count_ones ticks + 1
+NewTickAddsOne = (ticks offset : ℕ) → ticks < 256 → offset < 8 → ticked ticks offset ≡ false → count_ones (tick ticks offset) ≡ count_ones ticks + 1
 
--- Eight ones mean that every place is there.
+-- Eight ones mean that every offset is there.
 abbrev pub EightTicksAreAll : Type 0
-EightTicksAreAll = (ticks place : ℕ) → ticks < 256 → place < 8 → count_ones ticks ≡ 8 → ticked ticks place ≡ true
+EightTicksAreAll = (ticks offset : ℕ) → ticks < 256 → offset < 8 → count_ones ticks ≡ 8 → ticked ticks offset ≡ true
 
 -- The word that was fetched next is there from then on, and of the other words the same are there as before.
 pub record StoreAddsItsWord (before after : Fill) (value : ℕ) : Type 0 where

@@ -4,4 +4,3 @@ pub mod Dirs
 pub mod View
 pub mod Ticks
 pub mod Laws
-pub mod Examples

@@ -1,7 +1,7 @@
 -- What can be asked of a directory.
 use Rattle.std.specs.Prelude.{ℕ, false, cond, Some, None, Option, is_some, nat_lt}
 use Rattle.std.specs.Option.{option_map_or}
-use Rattle.directory.specs.declared.marks.WayNumber.{WayNumber}
+use Rattle.directory.specs.declared.lru.WayNumber.{WayNumber}
 use Rattle.directory.specs.declared.directory.Directory.{Directory}
 use Rattle.directory.specs.declared.directory.questions.WayState.{WayState}
 use Rattle.directory.specs.Touch.{way_numbered}
@@ -18,7 +18,7 @@ way_state d i (Some k) =
       valid = is_some (d.way i k);
       protect = option_map_or (λ w. w.protect) (d.way i k) false;
       tag = option_map_or (λ w. w.tag) (d.way i k) 0;
-      marks = d.marks i;
+      lru = d.lru i;
     })
 
 abbrev pub inspected : Dir → ℕ → ℕ → Option WayState

@@ -1,6 +1,6 @@
 //! The directory of the cache: 256 sets.
 ghost use Rattle.std.specs.Prelude.{◌≡◌, ℕ, ◌<◌, false};
-ghost use Rattle.directory.specs.declared.marks.WayNumber.{WayNumber as Number};
+ghost use Rattle.directory.specs.declared.lru.WayNumber.{WayNumber as Number};
 ghost use Rattle.directory.specs.Dirs.{view_of, twins, set_of, tag_of};
 
 use super::sets::SetRecord;

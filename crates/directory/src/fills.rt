@@ -1,21 +1,21 @@
 //! The line buffer: a fill under way, fetched word by word.
 ghost use Rattle.std.specs.Prelude.{◌≡◌, ℕ, ◌+◌, ◌<◌, ◌≤◌, count_ones};
-ghost use Rattle.directory.specs.Ticks.{ticked, next_place, next_word, complete, starting, with_word, fetched_word, Ordered, UnderWay};
-ghost use Rattle.directory.specs.Laws.{FillVisitsEachPlaceOnce, NewTickAddsOne, StoreAddsItsWord, EightTicksAreAll};
+ghost use Rattle.directory.specs.Ticks.{ticked, next_offset, next_word, complete, starting, with_word, fetched_word, Ordered, UnderWay};
+ghost use Rattle.directory.specs.Laws.{FillFetchesEachWordOnce, NewTickAddsOne, StoreAddsItsWord, EightTicksAreAll};
 
-use super::marks::WayNumber;
+use super::lru::WayNumber;
 
 /// A fill under way. That its ticks are in order is asked of callers, and not kept in a ghost field: the rules build fills as
 /// plain records.
 #[derive(Clone, Copy, Debug, PartialEq)]
 pub struct Fill {
     pub line: u32,
-    /// The place in the line that is fetched first; step k fetches this place XOR k.
+    /// The offset in the line that is fetched first; step k fetches this offset XOR k.
     pub first: u8,
-    /// The way that the line goes into, as the marks named it at the miss.
+    /// The way that the line goes into, as the LRU bits named it at the miss.
     pub way: WayNumber,
     pub protect: bool,
-    /// A bit for each place that has been fetched: its ones count the words that have come, and eight complete the fill, as the users asked.
+    /// A bit for each offset whose word has been fetched: its ones count the words that have come, and eight complete the fill.
     pub ticks: u8,
     pub words: [u16; 8],
 }
@@ -36,21 +36,21 @@ impl Fill {
         }
     }
 
-    // Has the place been fetched?
-    fn is_ticked(&self, place: u8) -> bool
-        requires { place < 8 }
-        ensures { result ≡ ticked self.now.ticks place }
+    // Has the offset been fetched?
+    fn is_ticked(&self, offset: u8) -> bool
+        requires { offset < 8 }
+        ensures { result ≡ ticked self.now.ticks offset }
     {
-        (self.ticks >> place) & 1 == 1
+        (self.ticks >> offset) & 1 == 1
     }
 
     /// The word, if it has been fetched already.
     pub fn fetched(&self, word: u32) -> Option<u16>
         ensures { result ≡ fetched_word self.now word }
     {
-        let place = (word % 8) as u8;
-        if self.line == word / 8 && self.is_ticked(place) {
-            Some(self.words[place as usize])
+        let offset = (word % 8) as u8;
+        if self.line == word / 8 && self.is_ticked(offset) {
+            Some(self.words[offset as usize])
         } else {
             None
         }
@@ -65,10 +65,10 @@ impl Fill {
         self.ticks.count_ones() == 8
     }
 
-    // The place that the next step fetches.
-    fn next_place(&self) -> u8
+    // The offset that the next step fetches.
+    fn next_offset(&self) -> u8
         requires { UnderWay self.now }
-        ensures value { result ≡ next_place self.now }
+        ensures value { result ≡ next_offset self.now }
         ensures small { result < 8 }
     {
         self.first ^ (self.ticks.count_ones() as u8)
@@ -78,12 +78,12 @@ impl Fill {
     pub fn next_word(&self) -> u32
         requires { UnderWay self.now }
         ensures value { result ≡ next_word self.now }
-        ensures law { FillVisitsEachPlaceOnce }
+        ensures law { FillFetchesEachWordOnce }
     {
-        self.line * 8 + self.next_place() as u32
+        self.line * 8 + self.next_offset() as u32
     }
 
-    /// Takes the value of the word that was fetched next, and ticks its place.
+    /// Takes the value of the word that was fetched next, and ticks its offset.
     pub fn store(&mut self, value: u16)
         requires { UnderWay self.old }
         ensures after { self.new ≡ with_word self.old value }
@@ -92,8 +92,8 @@ impl Fill {
         ensures adds { StoreAddsItsWord self.old self.new value }
         ensures law { NewTickAddsOne }
     {
-        let place = self.next_place();
-        self.words[place as usize] = value;
-        self.ticks |= 1 << place;
+        let offset = self.next_offset();
+        self.words[offset as usize] = value;
+        self.ticks |= 1 << offset;
     }
 }

@@ -3,12 +3,12 @@
 
 mod directory;
 mod fills;
-mod marks;
+mod lru;
 mod sets;
 
 pub use directory::{Directory, WayState};
 pub use fills::Fill;
-pub use marks::{Marks, NoSuchWay, WayNumber};
+pub use lru::{LruBits, NoSuchWay, WayNumber};
 pub use sets::Way;
 
 #[cfg(test)]

@@ -1,11 +1,11 @@
-//! One set of the directory: four ways and three marks.
+//! One set of the directory: four ways and three LRU bits.
 ghost use Rattle.std.specs.Prelude.{◌≡◌, ℕ, ◌≤◌, length, Some, None, find, is_some, count_by};
 ghost use Rattle.std.specs.Option.{option_map};
 ghost use Rattle.directory.specs.Touch.{every_way};
-ghost use Rattle.port.specs.Memory.{place_of};
+ghost use Rattle.port.specs.Memory.{offset_of};
 ghost use Rattle.directory.specs.Sets.{way_in, has_tag, touched_set, put_set, installed_set, worded_way};
 
-use super::marks::{Marks, NO_MARKS, WAYS, WayNumber};
+use super::lru::{LruBits, UNTOUCHED, WAYS, WayNumber};
 
 /// The line that a valid way holds: the one of its set that has the tag.
 #[derive(Clone, Copy, Debug, PartialEq)]
@@ -15,26 +15,26 @@ pub struct Way {
     pub words: [u16; 8],
 }
 
-/// The four ways of a set, each empty where it is not valid, and the marks of the set. That there are four is told by the calls, and not
+/// The four ways of a set, each empty where it is not valid, and the LRU bits of the set. That there are four is told by the calls, and not
 /// kept in a ghost field: the rules build sets as plain records.
 #[derive(Clone, Copy)]
 pub struct SetRecord {
     ways: [Option<Way>; 4],
-    marks: Marks,
+    lru: LruBits,
 }
 
 /// A set with no valid way, never touched.
 pub const EMPTY_SET: SetRecord = SetRecord {
     ways: [None; 4],
-    marks: NO_MARKS,
+    lru: UNTOUCHED,
 };
 
 impl SetRecord {
-    /// Marks the way as the one used last. Nothing else of the set changes.
+    /// Touches the way: it is now the one used last. Nothing else of the set changes.
     pub fn touch(&mut self, way: WayNumber)
         ensures { self.new ≡ touched_set self.old way }
     {
-        self.marks = self.marks.touched(way);
+        self.lru = self.lru.touched(way);
     }
 
     /// Puts a line into the way, all of it at once, and touches the way.
@@ -57,7 +57,7 @@ impl SetRecord {
     /// Changes a word of the line in the way, where it is valid.
     pub fn change(&mut self, way: WayNumber, word: u32, value: u16)
         ensures wide { length self.old.ways ≡ 4 }
-        ensures after { self.new ≡ put_set self.old way (option_map (λ w. worded_way w (place_of word) value) (way_in self.old way)) }
+        ensures after { self.new ≡ put_set self.old way (option_map (λ w. worded_way w (offset_of word) value) (way_in self.old way)) }
     {
         if let Some(held) = &mut self.ways[way as usize] {
             held.words[(word % 8) as usize] = value;
@@ -88,10 +88,10 @@ impl SetRecord {
             .count() as u32
     }
 
-    /// The marks of the set.
-    pub fn marks(&self) -> Marks
-        ensures { result ≡ self.now.marks }
+    /// The LRU bits of the set.
+    pub fn lru(&self) -> LruBits
+        ensures { result ≡ self.now.lru }
     {
-        self.marks
+        self.lru
     }
 }

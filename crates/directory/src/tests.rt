@@ -73,7 +73,7 @@ fn fetch(fill: &mut Fill) -> u32
 }
 
 #[test]
-fn fill_from_place_5(rt: HostRuntime) {
+fn fill_from_offset_5(rt: HostRuntime) {
     let mut fill = Fill::new(20_005, WayNumber::Zero, false);
     let early = fill.fetched(20_003);
     let order = [

@@ -85,8 +85,7 @@ impl<L: Port, H: Port> JoinedMap<L, H> {
     }
 }
 
-// A call with a word is one match of two arms. The six differ in the call that is made, so one function for all would take two closures on
-// `&mut` sides, and say what each of them did.
+// A call with a word goes to the side that has it: the high side counts its words from 0, and its faults are told as the map counts.
 impl<L: Port, H: Port> Port for JoinedMap<L, H> {
     ghost use Rattle.banks.specs.Whole.{whole_lines};
     ghost use Rattle.joined_map.specs.Joint.{joint_state};

@@ -14,7 +14,6 @@ use write_buffer::WriteBuffer;
 fn make_line(number: u8, cacheable: bool, protect: bool) -> Line {
     let word = 100 + 8 * u16::from(number);
     Line {
-        // Written out: a `map` over the places was tried, and its closure's sum gets no proof that it fits.
         words: [
             word,
             word + 1,

@@ -52,7 +52,7 @@ marks_answer s line =
 abbrev pub waiting_answer : State → ℕ
 waiting_answer s = min (length s.waiting) (2 ^ 32 - 1)
 
--- Some settle: any number of the oldest waiting writes, possibly none, leave the line and settle in order.
+-- Some settle: any number of the oldest waiting writes, possibly none, leave the waiting line and settle in order.
 pub record Settles (s t : State) : Type 0 where
   pub gone : List Store
   pub rest : List Store

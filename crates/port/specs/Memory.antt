@@ -1,4 +1,4 @@
--- What a port holds: a settled memory, and a line of waiting writes.
+-- What a port holds: a settled memory, and the waiting line.
 use Rattle.std.specs.Prelude.{◌≡◌, ℕ, ◌+◌, ◌-◌, ◌/◌, ◌%◌, ◌^◌, ◌≤◌, min, Bool, cond, List, [], ◌∷◌, ◌++◌, ◌==◌}
 use Rattle.port.specs.declared.Store.{Store}
 use Rattle.port.specs.Lanes.{merged}
@@ -33,12 +33,12 @@ pub record State : Type 0 where
 abbrev pub floor_above : ℕ → ℕ
 floor_above floor = min (floor + 1) (2 ^ 8 - 1)
 
--- A word stands in a line, at one of its eight places.
+-- A word stands in a line, at one of its eight offsets.
 abbrev pub line_of : ℕ → ℕ
 line_of word = word / 8
 
-abbrev pub place_of : ℕ → ℕ
-place_of word = word % 8
+abbrev pub offset_of : ℕ → ℕ
+offset_of word = word % 8
 
 -- Memory once a write has settled in it: the write's lanes of its word are replaced, in a protected line nothing is.
 abbrev pub stored : (ℕ → Bool) → Store → Memory → Memory
@@ -55,7 +55,7 @@ applied protected (w ∷ ws) m = applied protected ws (stored protected w m)
 abbrev pub seen : State → Memory
 seen s = applied s.protected s.waiting s.settled
 
--- The state with more writes at the end of the line.
+-- The state with more writes at the end of the waiting line.
 abbrev pub posted : List Store → State → State
 posted ws s = record s { waiting = s.waiting ++ ws }
 

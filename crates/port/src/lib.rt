@@ -15,7 +15,7 @@ use fault::{Fault, Refusal};
 #[derive(Clone, Copy, Debug, PartialEq)]
 pub struct Store {
     pub word: u32,
-    /// 1 is the low byte, 2 the high byte, 3 both. A number and no enum, since a write by other lanes is answered: by a refusal.
+    /// 1 is the low byte, 2 the high byte, 3 both; a write by any other lanes is refused.
     pub lanes: u8,
     pub value: u16,
 }
@@ -42,7 +42,7 @@ impl Store {
     }
 }
 
-/// Refuses a word or a line past the end. End and floor are two numbers, and no struct: each port has both at hand as answers of its own.
+/// Refuses a word or a line past the end, on the floor given.
 pub fn check_range(place: u32, end: u32, floor: u8) -> Result<(), Fault>
     ensures { result ≡ within place end floor }
 {
@@ -89,7 +89,7 @@ pub trait Port {
     fn floor(&self) -> u8
         ensures { result ≡ (state self.now).facts.floor };
 
-    /// Whether a line may be cached, and whether it is protected. One question with a pair for its answer, as the users asked for.
+    /// Whether a line may be cached, and whether it is protected.
     fn marks(&self, line: u32) -> Result<(bool, bool), Fault>
         ensures { result ≡ marks_answer (state self.now) line };
 
@@ -104,7 +104,7 @@ pub trait Port {
         ensures kept { Kept result self.old self.new }
         ensures did { does self.old (reads word result) self.new };
 
-    /// A processor write: it joins the line, and then some may settle.
+    /// A processor write: it joins the waiting line, and then some may settle.
     fn write(&mut self, write: Store) -> Result<(), Fault>
         ensures value { result ≡ write_answer (state self.old) write }
         ensures after { ByAnswer result (Settles (posted (write ∷ []) (state self.old)) (state self.new)) (self.new ≡ self.old) }

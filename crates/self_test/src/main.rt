@@ -36,13 +36,13 @@ fn print_way(
 ) -> io::Result<()> {
     match told {
         Ok(told) => {
-            // Flags as 0 and 1: one line of this program prints them, so marks have no `Display`.
+            // Flags are printed as 0 and 1, as the old program reads them.
             let valid = told.valid as u8;
             let protect = told.protect as u8;
             let tag = told.tag;
-            let m0 = told.marks.m0 as u8;
-            let m1 = told.marks.m1 as u8;
-            let m2 = told.marks.m2 as u8;
+            let m0 = told.lru.m0 as u8;
+            let m1 = told.lru.m1 as u8;
+            let m2 = told.lru.m2 as u8;
             println!(rt;
                 "set {set} way {way}: valid {valid} protect {protect} tag {tag} marks {m0}{m1}{m2}"
             )

@@ -1,10 +1,10 @@
--- How the four places of a queue hold a line.
+-- How the four slots of a queue hold its writes.
 use Rattle.std.proofs.Common.{◌≡◌, ℕ, suc, ◌<◌, ◌≤◌, Bool, true, false, cond, ltb, List, [], ◌∷◌, ◌++◌, length, Some, None, Option, refl, ap, ◌∙◌, arith, length-append, length-take}
 use Rattle.std.specs.Option.{option_to_list as left}
 use Rattle.std.proofs.lemmas.Bool.Decides.{nat_tests}
 use Rattle.port.specs.declared.Store.{Store}
 use Rattle.write_buffer.specs.declared.queue.Queue.{Queue}
-use Rattle.write_buffer.specs.Queues.{queue_places, queued, oldest, younger, leaving, joined, OldestLeavesFirst}
+use Rattle.write_buffer.specs.Queues.{queue_depth, queued, oldest, younger, leaving, joined, OldestLeavesFirst}
 
 whole_at : (b : Bool) (w : Store) (ws : List Store) →
     left (cond b None (oldest ws)) ++ (cond b ws (younger ws) ++ (w ∷ [])) ≡ ws ++ (w ∷ [])
@@ -16,10 +16,10 @@ younger_less : (ws : List Store) (n : ℕ) → length ws ≤ suc n → length (y
 younger_less [] n h = omega arith
 younger_less (x ∷ ws) n h = omega arith
 
-four_at : (w : Store) (ws : List Store) → length ws ≤ queue_places → length (joined w ws) ≤ queue_places
+four_at : (w : Store) (ws : List Store) → length ws ≤ queue_depth → length (joined w ws) ≤ queue_depth
 four_at w ws h = let y : length (younger ws) ≤ 3 = younger_less ws 3 h in simp length-append (grind (arith, nat_tests))
 
-free_at : (ws : List Store) → length ws < queue_places → leaving ws ≡ None
+free_at : (ws : List Store) → length ws < queue_depth → leaving ws ≡ None
 free_at ws h = grind (arith, nat_tests)
 
 pub oldest_leaves_first : OldestLeavesFirst
@@ -28,7 +28,7 @@ oldest_leaves_first = record { whole = λ w ws. whole_at (ltb (length ws) 4) w w
 count : (q : Queue) → length (queued q) ≡ q.len
 count q = let few = q.few in let all = q.all in simp length-take (omega arith)
 
-pub at_most_four : (q : Queue) → length (queued q) ≤ queue_places
+pub at_most_four : (q : Queue) → length (queued q) ≤ queue_depth
 at_most_four q = let n = count q in let few = q.few in omega arith
 
 -- what stood in line before a write joined, and the write: those that left and those that stay

@@ -9,9 +9,9 @@ use Rattle.port.specs.Meaning.{within, Settles, ByAnswer}
 use Rattle.port.specs.Steps.{Step, reads, writes, advances, outsides, snoops, flushes, Chain}
 use Rattle.write_buffer.specs.declared.buffer.WriteBuffer.{WriteBuffer}
 use Rattle.write_buffer.specs.declared.queue.Queue.{Queue}
-use Rattle.write_buffer.specs.Queues.{queue_places, queued, leaving, joined}
+use Rattle.write_buffer.specs.Queues.{queue_depth, queued, leaving, joined}
 
--- What a buffer shows of the port below: its line goes on with the queue.
+-- What a buffer shows of the port below: its waiting line goes on with the queue.
 abbrev pub buffered : State → List Store → State
 buffered s ws = posted ws (raised s)
 
@@ -58,7 +58,7 @@ Does b flushes c = PassesOn flushes b c
 
 pub record BufferingIsLawful : Type 0 where
   -- four at most wait in a queue
-  pub four : (q : Queue) → length (queued q) ≤ queue_places
+  pub four : (q : Queue) → length (queued q) ≤ queue_depth
   -- what is seen above is what is seen below with the queue applied
   pub sees : (s : State) (ws : List Store) → seen (buffered s ws) ≡ applied s.protected ws (seen s)
   -- to send the oldest below changes nothing that is seen above

@@ -5,12 +5,10 @@ use port::Store;
 
 mod methods;
 
-/// A line of at most four writes, the oldest first.
+/// A queue of at most four writes, the oldest first.
 #[derive(Clone, Copy)]
 pub struct Queue {
-    // Four places and a length, and no vector: the stages use no heap, and a vector of fixed capacity would be one more library that
-    // the proofs rest on. A model would be a list of any length, and could not tell that four is the most. The places from `len` on
-    // hold nothing that counts.
+    // The slots from `len` on hold nothing that counts.
     writes: [Store; 4],
     len: usize,
     ghost few: { len ≤ 4 },

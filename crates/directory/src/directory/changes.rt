@@ -2,25 +2,23 @@
 ghost use Rattle.std.specs.Prelude.{◌≡◌, ℕ, ◌<◌, None};
 ghost use Rattle.directory.specs.Dirs.{emptied, found, installed, dropped, changed, touched, set_of, tag_of};
 ghost use Rattle.directory.specs.View.{view};
-ghost use Rattle.directory.specs.Laws.{TouchedWayIsSpared, OnlyMarksOfOneSet, InstallKeepsOtherLines, DropForgetsOneLine, ChangeMovesNoLine};
-ghost use Rattle.directory.specs.Examples.{WorkedExamples};
+ghost use Rattle.directory.specs.Laws.{TouchedWayIsSpared, OnlyBitsOfOneSet, InstallKeepsOtherLines, DropForgetsOneLine, ChangeMovesNoLine};
 
 use super::{Directory, set_of, tag_of};
-use crate::marks::WayNumber;
+use crate::lru::WayNumber;
 use crate::sets::{EMPTY_SET, Way};
 
 impl Directory {
     /// A directory with no valid way, never touched.
     pub fn new() -> Directory
-        ensures value { view result ≡ emptied }
-        ensures examples { WorkedExamples }
+        ensures { view result ≡ emptied }
     {
         Directory {
             sets: [EMPTY_SET; 256],
         }
     }
 
-    /// Empties all ways and clears all marks.
+    /// Empties all ways and clears all LRU bits.
     pub fn clear(&mut self)
         ensures { view self.new ≡ emptied }
     {
@@ -30,7 +28,7 @@ impl Directory {
     /// Touches a way of the line's set.
     pub fn touch(&mut self, line: u32, way: WayNumber)
         ensures after { view self.new ≡ touched (view self.old) (set_of line) way }
-        ensures only { OnlyMarksOfOneSet (view self.old) (view self.new) (set_of line) }
+        ensures only { OnlyBitsOfOneSet (view self.old) (view self.new) (set_of line) }
         ensures law { TouchedWayIsSpared }
     {
         self.sets[set_of(line)].touch(way);
@@ -50,7 +48,7 @@ impl Directory {
         self.sets[set_of(line)].install(way, held);
     }
 
-    /// Empties the way that holds the line, if there is one. The marks stay.
+    /// Empties the way that holds the line, if there is one. The LRU bits stay.
     pub fn drop_line(&mut self, line: u32)
         ensures after { view self.new ≡ dropped (view self.old) line }
         ensures law { DropForgetsOneLine (view self.old) (view self.new) line }

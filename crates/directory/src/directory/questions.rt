@@ -6,17 +6,17 @@ ghost use Rattle.directory.specs.View.{view, inspected};
 ghost use Rattle.directory.specs.Laws.{OneWayHoldsALine};
 
 use super::{Directory, SETS, set_of, tag_of};
-use crate::marks::{Marks, WayNumber};
+use crate::lru::{LruBits, WayNumber};
 use crate::sets::Way;
 
-/// What is told of a way: its flags and tag, all 0 where it is invalid, and the marks of its set. No `Option` of a line, since the old
-/// program reads each of them of every way.
+/// What is told of a way: its flags and tag, all 0 where it is invalid, and the LRU bits of its set. The old program
+/// reads each of them of every way.
 #[derive(Clone, Copy, Debug, PartialEq)]
 pub struct WayState {
     pub valid: bool,
     pub protect: bool,
     pub tag: u32,
-    pub marks: Marks,
+    pub lru: LruBits,
 }
 
 impl Directory {
@@ -37,9 +37,9 @@ impl Directory {
 
     /// The way that the next line of this line's set replaces.
     pub fn victim(&self, line: u32) -> WayNumber
-        ensures { result ≡ victim_of ((view self.now).marks (set_of line)) }
+        ensures { result ≡ victim_of ((view self.now).lru (set_of line)) }
     {
-        self.sets[set_of(line)].marks().victim()
+        self.sets[set_of(line)].lru().victim()
     }
 
     /// What stands in a way of a set, or nothing where there is no such set or way. The way is a number here, since any number is answered.
@@ -56,7 +56,7 @@ impl Directory {
             valid: way.is_some(),
             protect: way.is_some_and(|way| way.protect),
             tag: way.map_or(0, |way| way.tag),
-            marks: record.marks(),
+            lru: record.lru(),
         })
     }
 

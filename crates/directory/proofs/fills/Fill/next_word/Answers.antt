@@ -1,5 +1,5 @@
-use Rattle.directory.proofs.Ticking.{each_place_once}
+use Rattle.directory.proofs.Ticking.{each_offset_once}
 use Rattle.directory.proofs.fills.Fill.next_word.Goals as goal
 
 pub returns-clause-law : goal.returns-clause-law
-returns-clause-law c = each_place_once
+returns-clause-law c = each_offset_once

@@ -1,7 +1,7 @@
-//! The four ways of a set, and the three marks that say which of them the next line replaces.
+//! The four ways of a set, and the three LRU bits that say which of them the next line replaces.
 ghost use Rattle.std.specs.Prelude.{◌≡◌, ℕ, ◌<◌};
 ghost use Rattle.std.specs.Result.{result_ok};
-ghost use Rattle.directory.specs.Touch.{way_numbered, number_of, touched_marks, victim_of};
+ghost use Rattle.directory.specs.Touch.{way_numbered, number_of, touched_bits, victim_of};
 ghost use Rattle.directory.specs.Laws.{TouchedWayIsSpared};
 
 /// One of the four ways of a set.
@@ -42,9 +42,9 @@ impl TryFrom<u32> for WayNumber {
     }
 }
 
-/// The three marks of a set.
+/// The LRU bits of a set, which remember the ways touched last.
 #[derive(Clone, Copy, Debug, PartialEq)]
-pub struct Marks {
+pub struct LruBits {
     /// The pair of ways touched last: 0 and 1 where it is set, else 2 and 3.
     pub m0: bool,
     /// The way of the first pair touched last: 0 where it is set, else 1.
@@ -53,57 +53,57 @@ pub struct Marks {
     pub m2: bool,
 }
 
-// Each setting of the marks; the digits of a name are m0, m1 and m2.
-const M000: Marks = Marks {
+// Each setting of the bits; the digits of a name are m0, m1 and m2.
+const M000: LruBits = LruBits {
     m0: false,
     m1: false,
     m2: false,
 };
 
-const M001: Marks = Marks {
+const M001: LruBits = LruBits {
     m0: false,
     m1: false,
     m2: true,
 };
 
-const M010: Marks = Marks {
+const M010: LruBits = LruBits {
     m0: false,
     m1: true,
     m2: false,
 };
 
-const M011: Marks = Marks {
+const M011: LruBits = LruBits {
     m0: false,
     m1: true,
     m2: true,
 };
 
-const M100: Marks = Marks {
+const M100: LruBits = LruBits {
     m0: true,
     m1: false,
     m2: false,
 };
 
-const M101: Marks = Marks {
+const M101: LruBits = LruBits {
     m0: true,
     m1: false,
     m2: true,
 };
 
-const M110: Marks = Marks {
+const M110: LruBits = LruBits {
     m0: true,
     m1: true,
     m2: false,
 };
 
-const M111: Marks = Marks {
+const M111: LruBits = LruBits {
     m0: true,
     m1: true,
     m2: true,
 };
 
-// The marks after a touch, 32 entries: a row for each setting, in the order of `number`, and in it one for each way.
-static TOUCHED: [[Marks; 4]; 8] = [
+// The bits after a touch, 32 entries: a row for each setting, in the order of `number`, and in it one for each way.
+static TOUCHED: [[LruBits; 4]; 8] = [
     [M110, M100, M001, M000], // M000
     [M110, M100, M001, M000], // M100
     [M110, M100, M011, M010], // M010
@@ -114,11 +114,11 @@ static TOUCHED: [[Marks; 4]; 8] = [
     [M111, M101, M011, M010], // M111
 ];
 
-/// The marks of a set that was never touched.
-pub const NO_MARKS: Marks = M000;
+/// The bits of a set that was never touched.
+pub const UNTOUCHED: LruBits = M000;
 
-impl Marks {
-    // The number of this setting, by which the table of 32 entries is read, as the users asked for: m0 counts 1, m1 2 and m2 4.
+impl LruBits {
+    // The number of this setting, by which the table of 32 entries is read: m0 counts 1, m1 2 and m2 4.
     fn number(self) -> usize
         ensures value { result ≡ number_of self }
         ensures small { result < 8 }
@@ -126,9 +126,9 @@ impl Marks {
         self.m0 as usize + 2 * (self.m1 as usize) + 4 * (self.m2 as usize)
     }
 
-    /// The marks once the way has been touched.
-    pub fn touched(self, way: WayNumber) -> Marks
-        ensures value { result ≡ touched_marks self way }
+    /// The bits once the way has been touched.
+    pub fn touched(self, way: WayNumber) -> LruBits
+        ensures value { result ≡ touched_bits self way }
         ensures law { TouchedWayIsSpared }
     {
         TOUCHED[self.number()][way as usize]

@@ -1,9 +1,0 @@
--- Where a word lies.
-use Rattle.std.specs.Prelude.{ℕ}
-use Rattle.directory.specs.Dirs.{set_of, tag_of}
-use Rattle.port.specs.Memory.{line_of, place_of}
-use Rattle.bench.specs.declared.Location.{Location}
-
--- The line of a word and the word's place in it, and the set and the tag by which the directory knows that line.
-abbrev pub location_of : ℕ → Location
-location_of word = record { line = line_of word; place = place_of word; set = set_of (line_of word); tag = tag_of (line_of word) }
