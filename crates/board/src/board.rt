@@ -1,13 +1,13 @@
 //! The board and its calls.
-ghost use Rattle.std.specs.Prelude.{◌≡◌, Err, ◌≢◌};
+ghost use Rattle.std.specs.Prelude.{◌≡◌, Err};
 ghost use Rattle.calls.specs.declared.call.Call.TheVariants.{Lock as Locks, LockedRead, LockedWrite, Unlock as Unlocks, Ask as Asks, MasterRead, MasterWrite, Give as Gives};
 ghost use Rattle.calls.specs.Calls.{cargo_of};
 ghost use Rattle.port.specs.Memory.{drained, floor_above};
-ghost use Rattle.port.specs.Meaning.{marks_answer, waiting_answer};
+ghost use Rattle.port.specs.Meaning.{read_answer, settled_answer, marks_answer, waiting_answer};
 ghost use Rattle.port.specs.Steps.{Drains};
 ghost use Rattle.book.specs.declared.answer.Mode.TheVariants.{Free};
-ghost use Rattle.book.specs.Tables.{place_in};
-ghost use Rattle.book.specs.Calling.{as_done, as_word, Called, Cycled};
+ghost use Rattle.book.specs.Tables.{stop, place_in};
+ghost use Rattle.book.specs.Calling.{as_done, as_word, Reaches, Called, cycle_answer};
 
 use book::{Answer, Mode};
 use calls::{Call, Cargo};
@@ -245,11 +245,13 @@ impl<P: Port> Board<P> {
         Ok(())
     }
 
-    /// Reads a word under a lock of its own, which is given back whatever the read answers.
+    /// The word as the processor sees it, once all that waits has settled. It is read under a lock of its own, which is given back
+    /// whatever the read answers; where the board refuses that lock, nothing changes.
+    #[tactic(auto, using(book::proofs::Cycles::lock_settles))]
     pub fn locked_cycle(&mut self, word: u32) -> Result<u16, Fault>
+        ensures value { result ≡ cycle_answer (stop self.old.mode Locks) (P.state self.old.port).facts.floor Locks (read_answer (P.state self.old.port) word) }
+        ensures after { Reaches (stop self.old.mode Locks) (P.state self.new.port ≡ drained (P.state self.old.port)) (self.new.port ≡ self.old.port) }
         ensures mode { self.new.mode ≡ self.old.mode }
-        ensures cycled { self.old.mode ≡ Free → Cycled P.Port self.old.mode self.old.port Locks (LockedRead word) Unlocks (as_word result) self.new.mode self.new.port }
-        ensures refused { (self.old.mode ≢ Free) → Called P.Port self.old.mode self.old.port Locks (as_word result) self.new.mode self.new.port }
     {
         let lock = self.lock()?;
         let value = self.locked_read(&lock, word);
@@ -257,11 +259,11 @@ impl<P: Port> Board<P> {
         value
     }
 
-    /// Reads a word under a grant of its own, which is given back whatever the read answers.
+    /// The settled word, read under a grant of its own, which is given back whatever the read answers. The port stays as it is.
     pub fn master_cycle(&mut self, word: u32) -> Result<u16, Fault>
+        ensures value { result ≡ cycle_answer (stop self.old.mode Asks) (P.state self.old.port).facts.floor Asks (settled_answer (P.state self.old.port) word) }
+        ensures after { self.new.port ≡ self.old.port }
         ensures mode { self.new.mode ≡ self.old.mode }
-        ensures cycled { self.old.mode ≡ Free → Cycled P.Port self.old.mode self.old.port Asks (MasterRead word) Gives (as_word result) self.new.mode self.new.port }
-        ensures refused { (self.old.mode ≢ Free) → Called P.Port self.old.mode self.old.port Asks (as_word result) self.new.mode self.new.port }
     {
         let grant = self.ask()?;
         let value = self.master_read(&grant, word);

@@ -1,5 +1,6 @@
 pub mod Counts
 pub mod Taking
+pub mod Cycles
 pub mod Bytes
 pub mod Records
 pub mod Locks

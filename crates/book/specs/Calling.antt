@@ -9,7 +9,7 @@ use Rattle.port.specs.Steps.{reads, writes, advances, outsides, snoops, flushes,
 use Rattle.book.specs.declared.answer.Mode.{Mode}
 use Rattle.book.specs.declared.answer.Answer.{Answer}
 use Rattle.book.specs.declared.answer.Answer.TheVariants.{Done, Word}
-use Rattle.book.specs.Tables.{stop, Asks, nothing, drain, advance, flush, read, peek, snoop, write, through, outside, deed}
+use Rattle.book.specs.Tables.{stop, fault_of, Asks, nothing, drain, advance, flush, read, peek, snoop, write, through, outside, deed}
 use Rattle.book.specs.Book.{book_of, Allowed, answer, step}
 
 -- The answers of calls that give no word, and of calls that give one.
@@ -53,12 +53,7 @@ pub record Called {P : Type 0} (G : Ghosts P) (m : Mode) (p : P) (c : Call) (r :
   -- refused, the whole port is as it was, but for a word found unreadable
   pub kept : Kept r p q
 
--- Three calls, one after another: the first hands out a token, the second uses it and gives the answer, the third spends it.
-pub record Cycled {P : Type 0} (G : Ghosts P) (m : Mode) (p : P) (open-call use-call close-call : Call) (r : Result Answer Fault) (n : Mode) (q : P) : Type 0 where
-  pub mode_open : Mode
-  pub port_open : P
-  pub opened : Called G m p open-call (Ok Done) mode_open port_open
-  pub mode_used : Mode
-  pub port_used : P
-  pub used : Called G mode_open port_open use-call r mode_used port_used
-  pub closed : Called G mode_used port_used close-call (Ok Done) n q
+-- A word read in a cycle of its own, which a call opens: where the mode refuses that call, its refusal is the answer.
+abbrev pub cycle_answer : Option Refusal → ℕ → Call → Result ℕ Fault → Result ℕ Fault
+cycle_answer None floor c r = r
+cycle_answer (Some x) floor c r = Err (fault_of floor c x)
