@@ -5,7 +5,7 @@ use Rattle.fault.specs.declared.Fault.{Fault}
 use Rattle.fault.specs.declared.Refusal.{Refusal}
 use Rattle.fault.specs.declared.Refusal.TheVariants.{PastEnd, BadLanes, Unreadable}
 use Rattle.calls.specs.declared.call.Call.{Call}
-use Rattle.calls.specs.declared.call.Call.TheVariants.{Read, Write as Post, Advance, Lock, MasterWrite, Snoop, Flush, Unposted, LockedWrite}
+use Rattle.calls.specs.declared.call.Call.TheVariants.{Read, Write as Post, Advance, Lock, MasterWrite, Snoop, Flush}
 use Rattle.calls.specs.declared.call.Cargo.{Cargo}
 use Rattle.calls.specs.declared.call.Cargo.TheVariants.{Store as OfStore}
 use Rattle.calls.specs.Calls.{cargo_of}
@@ -19,9 +19,9 @@ use Rattle.book.specs.declared.answer.Mode.{Mode}
 use Rattle.book.specs.declared.answer.Mode.TheVariants.{Locked}
 use Rattle.book.specs.declared.answer.Answer.{Answer}
 use Rattle.book.specs.declared.answer.Answer.TheVariants.{Done, Word}
-use Rattle.book.specs.Tables.{stop, fits, in_range, or_else, refusal, place_in, fault_of, if_taken, posts, masters_writes, goes_to, none, all, settles_by}
-use Rattle.book.specs.Book.{Book, book_of, settle, mastered, Admits, says, unless, told}
-use Rattle.book.specs.Calling.{as_done, as_word, Makes, Reaches, Called}
+use Rattle.book.specs.Tables.{Asks, through, Takers, Deed, deed_by, deed, joining, passing, led, settling_at, stop, fits, in_range, or_else, refusal, place_in, fault_of, if_taken, posts, masters_writes, goes_to, none, all, settles_by}
+use Rattle.book.specs.Book.{Book, told_of, book_of, settle, mastered, Admits, says, unless, told}
+use Rattle.book.specs.Calling.{as_done, as_word, MakesBy, Makes, Reaches, Called}
 use Rattle.book.proofs.Counts.{settle_none, settle_all, counted, Landed, advanced}
 
 -- The book's step and rule, at a refusal that is still to be told.
@@ -194,21 +194,17 @@ pub landed_all : (c : Call) (s t : State) → settles_by c ≡ all → t ≡ dra
 landed_all c s t e h =
     record { count = length (s.waiting ++ posts c); admitted = rw e refl; left = h ∙ settle_all (posted (posts c) (mastered (masters_writes c) s)) }
 
-pub unposted_called : {P : Type 0} (G : Ghosts P) (m : Mode) (p : P) (s : Store) (r : Result (Unit {0}) Fault) (x : Result Answer Fault) (q : P)
-    → stop m (Unposted s) ≡ None → r ≡ write_answer (G.state p) s → x ≡ as_done r
+-- A write that is sent through, by whomever.
+pub through_called : {P : Type 0} (G : Ghosts P) (m : Mode) (p : P) (c : Call) (t : Takers) (s : Store) (r : Result (Unit {0}) Fault) (x : Result Answer Fault) (q : P)
+    → deed c ≡ deed_by t (through s) None → cargo_of c ≡ OfStore s → stop m c ≡ None → r ≡ write_answer (G.state p) s → x ≡ as_done r
     → ByAnswer r (G.state q ≡ drained (posted (s ∷ []) (G.state p))) (q ≡ p) → Through G.state G.does s r p q
-    → Called G m p (Unposted s) x m q
-unposted_called G m p s r x q e a b l d =
-    store_called G m p (Unposted s) s r x q (G.state q ≡ drained (posted (s ∷ []) (G.state p))) refl refl e refl a b (landed_all (Unposted s) (G.state p) (G.state q) refl) l
-    (subst (λ (y : Result (Unit {0}) Fault). Through G.state G.does s y p q) a d)
-
-pub locked_called : {P : Type 0} (G : Ghosts P) (m : Mode) (p : P) (s : Store) (r : Result (Unit {0}) Fault) (x : Result Answer Fault) (q : P)
-    → stop m (LockedWrite s) ≡ None → r ≡ write_answer (G.state p) s → x ≡ as_done r
-    → ByAnswer r (G.state q ≡ drained (posted (s ∷ []) (G.state p))) (q ≡ p) → Through G.state G.does s r p q
-    → Called G m p (LockedWrite s) x m q
-locked_called G m p s r x q e a b l d =
-    store_called G m p (LockedWrite s) s r x q (G.state q ≡ drained (posted (s ∷ []) (G.state p))) refl refl e refl a b (landed_all (LockedWrite s) (G.state p) (G.state q) refl) l
-    (subst (λ (y : Result (Unit {0}) Fault). Through G.state G.does s y p q) a d)
+    → Called G m p c x m q
+through_called G m p c t s r x q k o e a b l d =
+    let asks = ap (λ (y : Deed). y.asks) k in
+    store_called G m p c s r x q (G.state q ≡ drained (posted (s ∷ []) (G.state p))) o (ap (λ (y : Deed). led y.leads m) k) e
+    (ap (told_of (G.state p)) asks) a b
+    (λ h. landed_all c (G.state p) (G.state q) (ap settling_at asks) (h ∙ ap (λ (y : Asks). drained (posted (joining y) (mastered (passing y) (G.state p)))) (sym asks))) l
+    (subst (λ (y : Asks). MakesBy G y p q) (sym asks) (subst (λ (y : Result (Unit {0}) Fault). Through G.state G.does s y p q) a d))
 
 pub lock_called : {P : Type 0} (G : Ghosts P) (m : Mode) (p q : P)
     → stop m Lock ≡ None → G.state q ≡ drained (G.state p) → Drains G.state G.does p q

@@ -5,9 +5,9 @@ use Rattle.port.specs.declared.Store.{Store}
 use Rattle.port.specs.Memory.{State, floor_above}
 use Rattle.banks.specs.Sizes.{words_of_lines}
 
--- What stands at a place: of the low side below its end, else of the high side, counted from there.
+-- What stands at a number: of the low side below its end, else of the high side, counted from there.
 abbrev pub side : {X : Type 0} → ℕ → (ℕ → X) → (ℕ → X) → ℕ → X
-side end low high place = cond (nat_lt place end) (low place) (high (place - end))
+side end low high number = cond (nat_lt number end) (low number) (high (number - end))
 
 -- One floor above the higher of the sides.
 abbrev pub joint_floor : ℕ → ℕ → ℕ

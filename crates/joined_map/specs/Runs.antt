@@ -5,17 +5,17 @@ use Rattle.port.specs.Steps.{Step, reads, writes, advances, outsides, snoops, fl
 use Rattle.joined_map.specs.declared.JoinedMap.{JoinedMap}
 use Rattle.joined_map.specs.Steps.{split, MapDoes}
 
--- What a call of a map is for a side: a flush, and what was accepted for a word of the side's own, at the word's place on that side.
+-- What a call of a map is for a side: a flush, and what was accepted for a word of the side's own, by the word's number on that side.
 abbrev pub own_by : (ℕ → Bool) → (ℕ → ℕ) → Step → List Step
-own_by own place (reads w r) = []
-own_by own place (writes w (Ok _)) = cond (own w.word) (writes (record w { word = place w.word }) (Ok tt) ∷ []) []
-own_by own place (writes w (Err _)) = []
-own_by own place advances = []
-own_by own place (outsides w (Ok _)) = cond (own w.word) (outsides (record w { word = place w.word }) (Ok tt) ∷ []) []
-own_by own place (outsides w (Err _)) = []
-own_by own place (snoops w (Ok _)) = cond (own w) (snoops (place w) (Ok tt) ∷ []) []
-own_by own place (snoops w (Err _)) = []
-own_by own place flushes = flushes ∷ []
+own_by own number (reads w r) = []
+own_by own number (writes w (Ok _)) = cond (own w.word) (writes (record w { word = number w.word }) (Ok tt) ∷ []) []
+own_by own number (writes w (Err _)) = []
+own_by own number advances = []
+own_by own number (outsides w (Ok _)) = cond (own w.word) (outsides (record w { word = number w.word }) (Ok tt) ∷ []) []
+own_by own number (outsides w (Err _)) = []
+own_by own number (snoops w (Ok _)) = cond (own w) (snoops (number w) (Ok tt) ∷ []) []
+own_by own number (snoops w (Err _)) = []
+own_by own number flushes = flushes ∷ []
 
 -- The low side's own are the words below its end.
 abbrev pub low_by : ℕ → Step → List Step

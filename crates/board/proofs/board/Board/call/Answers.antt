@@ -1,5 +1,7 @@
 use Rattle.std.proofs.Common.{rules}
-use Rattle.book.proofs.Taking.{read_called, write_called, outside_called, unposted_called, locked_called, lock_called, advance_called, snoop_called, flush_called}
+use Rattle.calls.specs.declared.call.Call.TheVariants.{Unposted, LockedWrite}
+use Rattle.book.specs.Tables.{unlocked, locked}
+use Rattle.book.proofs.Taking.{read_called, write_called, outside_called, through_called, lock_called, advance_called, snoop_called, flush_called}
 use Rattle.board.proofs.board.Board.call.Goals as goal
 
 pub returns-in-Read-Free : goal.returns-in-Read-Free
@@ -24,7 +26,11 @@ pub returns-in-Flush-default : goal.returns-in-Flush-default
 returns-in-Flush-default g c = search (rules, flush_called)
 
 pub returns-in-Unposted-Free : goal.returns-in-Unposted-Free
-returns-in-Unposted-Free g c = search (rules, unposted_called)
+returns-in-Unposted-Free g c =
+    let b = c.args.self.now in
+    search (rules, through_called g.P.Port b.mode b.port (Unposted c.in-Unposted-Free.write) unlocked)
 
 pub returns-in-LockedWrite-Locked : goal.returns-in-LockedWrite-Locked
-returns-in-LockedWrite-Locked g c = search (rules, locked_called)
+returns-in-LockedWrite-Locked g c =
+    let b = c.args.self.now in
+    search (rules, through_called g.P.Port b.mode b.port (LockedWrite c.in-LockedWrite-Locked.write) locked)
