@@ -99,7 +99,7 @@ overtaken =
 
 pub record BenchCards : Type 0 where
   pub word_20003 : location_of 20003 ≡ record { line = 2500; offset = 3; set = 196; tag = 9 }
-  -- after a flush five lines of a set, each filled, go to ways 0, 2, 1, 3, 0, which were named at their misses
+  -- five lines of a set are filled one after another from a flush on: each goes into the way named at its miss
   pub ways_are_named : (content : ℕ → ℕ) → ways_named content flushed five_lines ≡ Some Zero ∷ Some Two ∷ Some One ∷ Some Three ∷ Some Zero ∷ []
   pub ways_are_taken : (content : ℕ → ℕ) → ways_taken content flushed five_lines ≡ Some Zero ∷ Some Two ∷ Some One ∷ Some Three ∷ Some Zero ∷ []
   -- a snoop drops line 256 from way 2, and the next miss in the set names way 0 all the same

@@ -160,7 +160,7 @@ fills_open (Some b) line = b.line == line && not b.protect
 abbrev pub ready_turn : Shown → Model → ℕ → Turn
 ready_turn v t line = cond (fills_open t.fill line) (finish_turn v t) (turn t [])
 
--- A write always goes below; a miss fills nothing.
+-- Whatever the tables hold, a write goes on to the port below, and one that misses fetches nothing.
 abbrev pub write_turn : Shown → Model → Store → Result (Unit {0}) Fault → Turn
 write_turn v t w r =
     turn (written (ready_turn v t (line_of w.word)).tables w) ((ready_turn v t (line_of w.word)).calls ++ (writes w r ∷ []))

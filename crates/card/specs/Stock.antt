@@ -1,5 +1,5 @@
 -- The memory that the card is delivered with.
-use Rattle.std.specs.Prelude.{◌≡◌, ℕ, ◌%◌, ◌<◌, true, false, cond, not, List, length, replicate, ◌==◌, slice_index_or, slice_set}
+use Rattle.std.specs.Prelude.{◌≡◌, ℕ, ◌%◌, ◌^◌, ◌<◌, true, false, cond, not, List, length, replicate, ◌==◌, slice_index_or, slice_set}
 use Rattle.banks.specs.declared.line.Line.{Line}
 use Rattle.banks.specs.Lines.{blank}
 
@@ -13,7 +13,7 @@ stock_line line = record {
 }
 
 abbrev pub stock_byte : ℕ → ℕ
-stock_byte i = i % 256
+stock_byte i = i % 2 ^ 8
 
 -- So many items, each what a rule says of its place.
 pub record Stocked {X : Type 0} (rule : ℕ → X) (none : X) (count : ℕ) (items : List X) : Type 0 where
@@ -22,7 +22,7 @@ pub record Stocked {X : Type 0} (rule : ℕ → X) (none : X) (count : ℕ) (ite
 
 -- 2,048 lines of RAM, and 64 lines of EPROM, of 16 bytes each.
 abbrev pub StockLines : List Line → Type 0
-StockLines = Stocked stock_line blank 2048
+StockLines = Stocked stock_line blank (2 ^ 11)
 
 abbrev pub StockImage : List ℕ → Type 0
-StockImage = Stocked stock_byte 0 1024
+StockImage = Stocked stock_byte 0 (2 ^ 10)

@@ -1,5 +1,5 @@
 -- The directory as it can be asked for, by set and way.
-use Rattle.std.specs.Prelude.{ℕ, zero, suc, ◌+◌, ◌/◌, ◌%◌, Bool, false, cond, not, ◌&&◌, List, Some, None, is_some, find, count_by, Option, ◌==◌, slice_index_or}
+use Rattle.std.specs.Prelude.{ℕ, zero, suc, ◌+◌, ◌/◌, ◌%◌, ◌^◌, Bool, false, cond, not, ◌&&◌, List, Some, None, is_some, find, count_by, Option, ◌==◌, slice_index_or}
 use Rattle.std.specs.Option.{option_map}
 use Rattle.port.specs.Memory.{line_of, offset_of}
 use Rattle.directory.specs.declared.lru.LruBits.{LruBits}
@@ -11,7 +11,7 @@ use Rattle.directory.specs.Sets.{no_set, filled_way, worded_way, way_in, has_tag
 
 -- How many sets there are. A line belongs to one of them, and its tag tells it from the other lines of that set.
 abbrev pub number_of_sets : ℕ
-number_of_sets = 256
+number_of_sets = 2 ^ 8
 
 abbrev pub set_of : ℕ → ℕ
 set_of line = line % number_of_sets

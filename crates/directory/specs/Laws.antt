@@ -1,5 +1,5 @@
 -- What holds of the tables whatever was done to them.
-use Rattle.std.specs.Prelude.{◌≡◌, ℕ, ◌+◌, ◌<◌, true, false, ◌≢◌, Some, None, count_ones}
+use Rattle.std.specs.Prelude.{◌≡◌, ℕ, ◌+◌, ◌^◌, ◌<◌, true, false, ◌≢◌, Some, None, count_ones}
 use Rattle.directory.specs.declared.lru.LruBits.{LruBits}
 use Rattle.directory.specs.declared.lru.WayNumber.{WayNumber}
 use Rattle.directory.specs.declared.fills.Fill.{Fill}
@@ -49,11 +49,11 @@ pub record FillFetchesEachWordOnce : Type 0 where
 
 -- Ticking a new offset adds one.
 abbrev pub NewTickAddsOne : Type 0
-NewTickAddsOne = (ticks offset : ℕ) → ticks < 256 → offset < 8 → ticked ticks offset ≡ false → count_ones (tick ticks offset) ≡ count_ones ticks + 1
+NewTickAddsOne = (ticks offset : ℕ) → ticks < 2 ^ 8 → offset < 8 → ticked ticks offset ≡ false → count_ones (tick ticks offset) ≡ count_ones ticks + 1
 
 -- Eight ones mean that every offset is there.
 abbrev pub EightTicksAreAll : Type 0
-EightTicksAreAll = (ticks offset : ℕ) → ticks < 256 → offset < 8 → count_ones ticks ≡ 8 → ticked ticks offset ≡ true
+EightTicksAreAll = (ticks offset : ℕ) → ticks < 2 ^ 8 → offset < 8 → count_ones ticks ≡ 8 → ticked ticks offset ≡ true
 
 -- The word that was fetched next is there from then on, and of the other words the same are there as before.
 pub record StoreAddsItsWord (before after : Fill) (value : ℕ) : Type 0 where

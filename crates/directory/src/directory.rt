@@ -1,7 +1,7 @@
 //! The directory of the cache: 256 sets.
 ghost use Rattle.std.specs.Prelude.{◌≡◌, ℕ, ◌<◌, false};
 ghost use Rattle.directory.specs.declared.lru.WayNumber.{WayNumber as Number};
-ghost use Rattle.directory.specs.Dirs.{view_of, twins, set_of, tag_of};
+ghost use Rattle.directory.specs.Dirs.{number_of_sets, view_of, twins, set_of, tag_of};
 
 use super::sets::SetRecord;
 
@@ -18,11 +18,12 @@ pub struct Directory {
     ghost apart: { (i : ℕ) (j k : Number) → twins (view_of sets) i j k ≡ false },
 }
 
+// How many sets there are.
 const SETS: u32 = 256;
 
 fn set_of(line: u32) -> usize
     ensures value { result ≡ set_of line }
-    ensures small { result < 256 }
+    ensures small { result < number_of_sets }
 {
     (line % SETS) as usize
 }

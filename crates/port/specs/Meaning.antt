@@ -52,14 +52,14 @@ marks_answer s line =
 abbrev pub waiting_answer : State → ℕ
 waiting_answer s = min (length s.waiting) (2 ^ 32 - 1)
 
--- Some settle: any number of the oldest waiting writes, possibly none, leave the waiting line and settle in order.
+-- Settling: of the waiting line the oldest, as many as it may be, leave it in their order, each stored as it leaves.
 pub record Settles (s t : State) : Type 0 where
   pub gone : List Store
   pub rest : List Store
   pub split : s.waiting ≡ gone ++ rest
   pub after : t ≡ settling gone rest s
 
--- Some settle, at least one if any waits.
+-- An advance: where a write waits, one or more of the oldest settle.
 pub record Advances (s t : State) : Type 0 where
   pub settles : Settles s t
   pub some : 0 < length s.waiting → length t.waiting < length s.waiting
