@@ -6,4 +6,4 @@ mod whole;
 
 pub use board::{Board, Grant, Lock};
 pub use book::{Answer, Mode};
-pub use whole::{Outcome, compare, run};
+pub use whole::{NoRoom, Outcome, compare, run, run_in};

@@ -34,6 +34,15 @@ impl<P: Port> Cache<P> {
         below
     }
 
+    /// Takes the cache apart, and hands its tables back too. The port below is as it was, and nothing settles.
+    pub fn into_parts(self) -> (P, Tables)
+        ensures below { result.0 ≡ self.below }
+        ensures tables { result.1 ≡ self.tables }
+    {
+        let Cache { below, tables } = self;
+        (below, tables)
+    }
+
     // Each of these four says what it did below and to the tables; that some writes may have settled below is one clause of each.
 
     // Fetches the next word of the line under fill, if there is one.

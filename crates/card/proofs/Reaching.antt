@@ -8,7 +8,9 @@ use Rattle.port.specs.declared.Port.{Ghosts}
 use Rattle.port.specs.Meaning.{waiting_answer, ByAnswer}
 use Rattle.port.specs.Steps.{writes, advances, done, then, Drains, empty, more, Through}
 use Rattle.write_buffer.specs.declared.buffer.WriteBuffer.{WriteBuffer}
+use Rattle.write_buffer.specs.declared.queue.Queue.{Queue}
 use Rattle.write_buffer.specs.Queues.{queued}
+use Rattle.card.specs.declared.stages.Held.{Held}
 use Rattle.write_buffer.specs.Runs.{NothingIsLost}
 use Rattle.cache_tables.specs.Rules.{cleared}
 use Rattle.cache.specs.Doing.{tables_of}
@@ -77,11 +79,14 @@ module _ {P : Type 0} {G : Ghosts P} where
   pub taken_off : (memory : P) (b : WriteBuffer P G) (c d : Pile G) → d ≡ c → b ≡ d.below → memory ≡ b.below → c.below.below ≡ memory
   taken_off memory b c d e f g = sym (g ∙ ap (λ (x : WriteBuffer P G). x.below) f ∙ ap (λ (x : Pile G). x.below.below) e)
 
-  pub on_the_stages : (memory left : P) (cs : List Call) (rs : List (Result Answer Fault)) (waiting : ℕ) (made pile : Pile G) (mode : Mode)
-      → Fresh memory made → pile.below.below ≡ left → NothingIsLost G → OnlyReadsAreKept (buffer_ghosts G)
+  pub queue_kept : (q : Queue) (b : WriteBuffer P G) (c d : Pile G) → d ≡ c → b ≡ d.below → q ≡ b.queue → q ≡ c.below.queue
+  queue_kept q b c d e f g = g ∙ ap (λ (x : WriteBuffer P G). x.queue) f ∙ ap (λ (x : Pile G). x.below.queue) e
+
+  pub on_the_stages : (memory left : P) (cs : List Call) (rs : List (Result Answer Fault)) (waiting : ℕ) (held : Held) (made pile : Pile G) (mode : Mode)
+      → Fresh memory made → pile.below.below ≡ left → held.queue ≡ pile.below.queue → held.tables ≡ pile.tables → NothingIsLost G → OnlyReadsAreKept (buffer_ghosts G)
       → NeverAnOldDigit (pile_ghosts G) made cs rs mode pile → waiting ≡ waiting_answer (pile_state G pile)
-      → RunOnTheStages G memory cs rs waiting left
-  on_the_stages memory left cs rs waiting made pile mode fresh handed lost kept promise counted =
+      → RunOnTheStages G memory cs rs waiting held left
+  on_the_stages memory left cs rs waiting held made pile mode fresh handed queue tables lost kept promise counted =
       let top = run_reached (pile_ghosts G) made cs rs mode pile promise in
       let buffer = kept made pile top.calls top.chain in
       let bottom = lost made.below pile.below buffer.calls buffer.chain in
@@ -91,6 +96,8 @@ module _ {P : Type 0} {G : Ghosts P} where
         mode = mode;
         pile = pile;
         handed = handed;
+        queue = queue;
+        tables = tables;
         promise = promise;
         counted = counted;
         reached = subst₂ (Reached G.does) fresh.memory_below handed (record { calls = bottom.gets.calls; chain = bottom.gets.chain });

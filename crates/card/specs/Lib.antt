@@ -1,3 +1,4 @@
 pub mod Stages
 pub mod Card
 pub mod Stock
+pub mod Output

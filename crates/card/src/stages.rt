@@ -1,22 +1,105 @@
 //! The stages of the card, and a list of calls run on them.
-ghost use Rattle.std.specs.Prelude.{◌≡◌, MatchResult};
-ghost use Rattle.card.specs.Stages.{RunOnTheStages};
+ghost use Rattle.std.specs.Prelude.{◌≡◌, ◌<◌, ◌≤◌, length, take, drop, MatchResult};
+ghost use Rattle.port.specs.Meaning.{waiting_answer};
+ghost use Rattle.directory.specs.Dirs.{valid_ways};
+ghost use Rattle.cache_tables.specs.Rules.{model};
+ghost use Rattle.cache.specs.Doing.{inspect_answer};
+ghost use Rattle.card.specs.Card.{card_floor};
+ghost use Rattle.card.specs.Stages.{pile_state, RunOnTheStages};
 
-use board::run;
+use board::{Board, NoRoom, run, run_in};
 use book::Answer;
 use cache::Cache;
+use cache_tables::Tables;
 use calls::Call;
-use fault::Fault;
+use directory::WayState;
+use fault::{Fault, Refusal};
 use port::Port;
 use std::alloc::{AllocFailed, Global};
-use write_buffer::WriteBuffer;
+use write_buffer::{Queue, WriteBuffer};
+
+/// What the stages hold when they are taken off a memory: the writes that wait still, and the tables of the cache.
+#[derive(Drop)]
+pub struct Held {
+    pub queue: Queue,
+    pub tables: Tables,
+}
+
+/// The floor of the card's cache, which stands on a buffer, a map and the banks.
+const CACHE_FLOOR: u8 = 3;
+
+impl Held {
+    /// What stands in a way of a set, as the card's cache tells it. Both are numbers, since any number is answered.
+    pub fn inspect(&self, set: u32, way: u32) -> Result<WayState, Fault>
+        ensures { result ≡ inspect_answer (model self.now.tables).dir card_floor set way }
+    {
+        self.tables.directory.inspect(set, way).ok_or(Fault {
+            refusal: Refusal::PastEnd,
+            place: set,
+            floor: CACHE_FLOOR,
+        })
+    }
+
+    /// How many ways of the cache are valid.
+    pub fn valid_ways(&self) -> u32
+        ensures { result ≡ valid_ways (model self.now.tables).dir }
+    {
+        self.tables.directory.valid_ways()
+    }
+}
 
 /// A memory after a list of calls was run on the stages over it.
 #[derive(Drop)]
 pub struct StagesRun<M: Port> {
     pub memory: M,
+    pub held: Held,
     pub answers: Vec<Result<Answer, Fault>>,
     pub waiting: u32,
+}
+
+/// The same, where the answers went into room that the caller lent.
+#[derive(Drop)]
+pub struct StagesLeft<M: Port> {
+    pub memory: M,
+    pub held: Held,
+    pub waiting: u32,
+}
+
+// Takes the stages off the memory, with all that they hold.
+fn take_off<M: Port>(board: Board<Cache<WriteBuffer<M>>>) -> StagesLeft<M>
+    ensures memory { result.memory ≡ board.port.below.below }
+    ensures queue { result.held.queue ≡ board.port.below.queue }
+    ensures tables { result.held.tables ≡ board.port.tables }
+    ensures waiting { result.waiting ≡ waiting_answer (pile_state M.Port board.port) }
+{
+    let waiting = board.waiting();
+    let (buffer, tables) = board.into_port().into_parts();
+    let (memory, queue) = buffer.into_parts();
+    StagesLeft {
+        memory,
+        held: Held { queue, tables },
+        waiting,
+    }
+}
+
+/// Runs calls on a board over a cache over a write buffer over a memory, and hands the memory back. The answers go into the room that the caller lends,
+/// one for each call from its start. Where there is less room than there are calls no call is made, and room and memory are as they were.
+pub fn run_on_stages_in<M: Port>(
+    memory: M,
+    calls: &[Call],
+    room: &mut [Result<Answer, Fault>],
+) -> Result<StagesLeft<M>, NoRoom<M>>
+    ensures promise { MatchResult result (λ left. RunOnTheStages M.Port memory calls.now (take (length calls.now) room.new) left.waiting left.held left.memory) (λ none. none.port ≡ memory) }
+    ensures refused { MatchResult result (λ _. length calls.now ≤ length room.old) (λ _. length room.old < length calls.now) }
+    ensures beyond { MatchResult result (λ _. drop (length calls.now) room.new ≡ drop (length calls.now) room.old) (λ _. room.new ≡ room.old) }
+{
+    match run_in(Cache::new(WriteBuffer::new(memory)), calls, room) {
+        Ok(board) => Ok(take_off(board)),
+        Err(none) => {
+            let (memory, _) = none.port.into_below().into_parts();
+            Err(NoRoom { port: memory })
+        }
+    }
 }
 
 /// Runs calls on a board over a cache over a write buffer over a memory, and hands the memory back.
@@ -25,16 +108,16 @@ pub fn run_on_stages<M: Port>(
     memory: M,
     calls: &[Call],
 ) -> Result<StagesRun<M>, AllocFailed<M>>
-    ensures { MatchResult result (λ ran. RunOnTheStages M.Port memory calls.now ran.answers.items ran.waiting ran.memory) (λ failed. failed.value ≡ memory) }
+    ensures { MatchResult result (λ ran. RunOnTheStages M.Port memory calls.now ran.answers.items ran.waiting ran.held ran.memory) (λ failed. failed.value ≡ memory) }
 {
     match run(alloc, Cache::new(WriteBuffer::new(memory)), calls) {
         Ok(outcome) => {
-            let waiting = outcome.board.waiting();
-            let (memory, _) = outcome.board.into_port().into_below().into_parts();
+            let left = take_off(outcome.board);
             Ok(StagesRun {
-                memory,
+                memory: left.memory,
+                held: left.held,
                 answers: outcome.answers,
-                waiting,
+                waiting: left.waiting,
             })
         }
         Err(failed) => {

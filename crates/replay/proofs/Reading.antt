@@ -82,8 +82,8 @@ one_later true = refl
 one_later false = refl
 
 pub made_with : {P : Type 0} (G : Ghosts P) (p : P) (cs ds : List Call) (rs : List (Result Answer Fault)) (m : Mode) (q : P)
-    → cs ≡ ds → NeverAnOldDigit G p cs rs m q → MadeOnABoard G p ds rs
-made_with G p cs ds rs m q list h = record { mode = m; left = q; promise = subst (λ (x : List Call). NeverAnOldDigit G p x rs m q) list h }
+    → cs ≡ ds → NeverAnOldDigit G p cs rs m q → MadeOnABoard G p ds rs q
+made_with G p cs ds rs m q list h = record { mode = m; promise = subst (λ (x : List Call). NeverAnOldDigit G p x rs m q) list h }
 
 -- The rows, where the answers were looked at twice.
 pub rows_taken : (clear : Bool) (rs one two : List (Result Answer Fault)) (later : ℕ) (before after : Option Row) → one ≡ rs → two ≡ rs → later ≡ bool_byte clear
@@ -93,9 +93,9 @@ rows_taken clear rs one two later before after e f shift early late = record {
   from_last_reading = late ∙ (ap (λ (x : List (Result Answer Fault)). row_at x (11 + later)) f ∙ ap (row_at rs) (ap (λ (n : ℕ). 11 + n) shift ∙ one_later clear));
 }
 
-pub rows_read : {P : Type 0} (G : Ghosts P) (p : P) (clear : Bool) (rs : List (Result Answer Fault)) (before after : Option Row)
-    → MadeOnABoard G p (incident_calls clear) rs → RowsAreTheAnswers clear rs before after → RowStands (G.state p) → ReadsTheNewestRow clear before after
-rows_read G p clear rs before after made taken stands =
+pub rows_read : {P : Type 0} (G : Ghosts P) (p q : P) (clear : Bool) (rs : List (Result Answer Fault)) (before after : Option Row)
+    → MadeOnABoard G p (incident_calls clear) rs q → RowsAreTheAnswers clear rs before after → RowStands (G.state p) → ReadsTheNewestRow clear before after
+rows_read G p q clear rs before after made taken stands =
     let run = made.promise in
     let all : rs ≡ incident_answers clear = sym run.answers ∙ forced_answers run.run (incident_forced (G.state p) clear stands) run.calls run.follows_the_book in
     record {

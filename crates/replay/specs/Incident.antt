@@ -50,9 +50,8 @@ pub record RowStands (s : State) : Type 0 where
   pub unprotected : s.protected (line_of hundreds) ≡ false
 
 -- The calls were made on a board on the port, with these answers and with the whole promise about old digits.
-pub record MadeOnABoard {P : Type 0} (G : Ghosts P) (p : P) (cs : List Call) (rs : List (Result Answer Fault)) : Type 0 where
+pub record MadeOnABoard {P : Type 0} (G : Ghosts P) (p : P) (cs : List Call) (rs : List (Result Answer Fault)) (left : P) : Type 0 where
   pub mode : Mode
-  pub left : P
   pub promise : NeverAnOldDigit G p cs rs mode left
 
 -- The answers to the last reading of the row begin here.

@@ -1,7 +1,7 @@
 //! The incident: the display clears a digit while the cache fills its line. Its calls, and the rows that the processor reads.
 #![tactic(auto)]
 
-ghost use Rattle.std.specs.Prelude.{◌≡◌, IfOk};
+ghost use Rattle.std.specs.Prelude.{◌≡◌, IfOk, MatchResult};
 ghost use Rattle.replay.specs.Rows.{word_at, row_at};
 ghost use Rattle.replay.specs.Incident.{incident_calls, RowStands, MadeOnABoard, RowsAreTheAnswers, ReadsTheNewestRow};
 
@@ -11,7 +11,7 @@ use calls::Call;
 use fault::Fault;
 use port::{Port, Store};
 use row::BLANK;
-use std::alloc::{AllocError, Global};
+use std::alloc::{AllocError, AllocFailed, Global};
 
 mod row;
 
@@ -75,11 +75,13 @@ const LAST_READING: usize = 11;
 /// The calls, their answers, and the row as it was read before and after the display had the bus. Calls and answers are two lists, as the promise
 /// about them speaks of two.
 #[derive(Drop)]
-pub struct Replayed {
+pub struct Replayed<P: Port> {
     pub calls: Vec<Call>,
     pub answers: Vec<Result<Answer, Fault>>,
     pub before: Option<Row>,
     pub after: Option<Row>,
+    /// The port as the calls left it.
+    pub port: P,
 }
 
 // The calls of the incident, with the display's clear or without it.
@@ -116,14 +118,17 @@ fn row_at(answers: &[Result<Answer, Fault>], first: usize) -> Option<Row>
     })
 }
 
-/// Replays the incident on a board over a port, with the display's clear or without it.
-pub fn replay<P: Port + Drop>(alloc: Global, port: P, clears: bool) -> Result<Replayed, AllocError>
+/// Replays the incident on a board over a port, with the display's clear or without it. Where there is no memory no call is made, and the port comes
+/// back as it was.
+pub fn replay<P: Port>(alloc: Global, port: P, clears: bool) -> Result<Replayed<P>, AllocFailed<P>>
     ensures calls { IfOk result (λ told. told.calls.items ≡ incident_calls clears) }
-    ensures made { IfOk result (λ told. MadeOnABoard P.Port port (incident_calls clears) told.answers.items) }
+    ensures made { MatchResult result (λ told. MadeOnABoard P.Port port (incident_calls clears) told.answers.items told.port) (λ failed. failed.value ≡ port) }
     ensures taken { IfOk result (λ told. RowsAreTheAnswers clears told.answers.items told.before told.after) }
     ensures rows { IfOk result (λ told. RowStands (P.state port) → ReadsTheNewestRow clears told.before told.after) }
 {
-    let calls = make_calls(alloc, clears)?;
+    let Ok(calls) = make_calls(alloc, clears) else {
+        return Err(AllocFailed { value: port });
+    };
     let outcome = run(alloc, port, &calls)?;
     let answers = outcome.answers;
     let before = row_at(&answers, FIRST_READING);
@@ -133,5 +138,6 @@ pub fn replay<P: Port + Drop>(alloc: Global, port: P, clears: bool) -> Result<Re
         answers,
         before,
         after,
+        port: outcome.board.into_port(),
     })
 }

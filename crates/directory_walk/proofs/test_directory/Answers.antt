@@ -4,14 +4,14 @@ use Rattle.book.specs.Promise.{NeverAnOldDigit}
 use Rattle.cache.specs.Doing.{cache_ghosts}
 use Rattle.directory_walk.proofs.test_directory.Goals as goal
 
-pub returns : goal.returns
-returns g c =
-    let ran = c.in_ok-outcome.outcome in
+pub returns-in-Ok-run : goal.returns-in-Ok-run
+returns-in-Ok-run g c =
+    let ran = c.in-Ok-run.outcome in
     let kept : List Call → Type 0 = λ cs. NeverAnOldDigit (cache_ghosts g.P.Port) c.new.result cs (vec_items ran.answers) ran.board.mode ran.board.port in
     record {
       fresh = c.new.result;
       stands_on = c.new.ensures.below;
       no_line = c.new.ensures.tables;
-      promise = subst kept (c.deref.ensures.value ∙ c.in_ok-calls.ensures) c.in_ok-outcome.ensures.promise;
-      walked = c.in_ok-walk.ensures;
+      promise = subst kept (c.deref.ensures.value ∙ c.in-Ok.ensures) c.in-Ok-run.ensures.promise;
+      walked = c.walk_into-walk.ensures;
     }
