@@ -1,11 +1,16 @@
 -- An EPROM bank as a port: its bytes are its settled memory, all of it cacheable, protected and readable.
-use Rattle.std.specs.Prelude.{ℕ, ◌+◌, ◌*◌, ◌^◌, true, List, [], length, slice_index}
+use Rattle.std.specs.Prelude.{◌≡◌, ℕ, ◌+◌, ◌*◌, ◌/◌, ◌%◌, ◌^◌, ◌<◌, true, List, [], length, slice_index}
 use Rattle.port.specs.Memory.{State, Memory}
 use Rattle.banks.specs.Sizes.{words_of_lines, lines_of_bytes}
 
 -- The low byte of each word comes first.
 abbrev pub image_memory : List ℕ → Memory
 image_memory bytes = record { word = λ a. slice_index bytes (a * 2) + slice_index bytes (a * 2 + 1) * 2 ^ 8; readable = λ a. true }
+
+-- A word's bytes, where they are bytes.
+pub record LowByteFirst : Type 0 where
+  pub low : (bytes : List ℕ) (a : ℕ) → slice_index bytes (a * 2) < 2 ^ 8 → (image_memory bytes).word a % 2 ^ 8 ≡ slice_index bytes (a * 2)
+  pub high : (bytes : List ℕ) (a : ℕ) → slice_index bytes (a * 2) < 2 ^ 8 → (image_memory bytes).word a / 2 ^ 8 ≡ slice_index bytes (a * 2 + 1)
 
 abbrev pub eprom_state : List ℕ → State
 eprom_state bytes = record {

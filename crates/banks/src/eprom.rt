@@ -2,7 +2,7 @@
 ghost use Rattle.std.specs.Prelude.{◌≡◌, length};
 ghost use Rattle.banks.specs.Sizes.{lines_of_bytes};
 ghost use Rattle.banks.specs.Whole.{whole_lines};
-ghost use Rattle.banks.specs.Eprom.{eprom_state};
+ghost use Rattle.banks.specs.Eprom.{eprom_state, LowByteFirst};
 
 use super::sizes::eprom_size;
 use fault::Fault;
@@ -16,8 +16,10 @@ pub struct EpromBank<'a> {
 
 impl<'a> EpromBank<'a> {
     /// A bank on these bytes; it has no words where their number is unfit.
+    #[tactic(auto, using(crate::proofs::Bytes::low_byte_first))]
     pub fn new(bytes: &'a [u8]) -> EpromBank<'a>
         ensures image { result.bytes.now ≡ bytes.now }
+        ensures law { LowByteFirst }
     {
         EpromBank { bytes }
     }

@@ -4,5 +4,6 @@ pub mod Cycles
 pub mod Bytes
 pub mod Records
 pub mod Locks
+pub mod Modes
 pub mod Sameness
 pub mod Running

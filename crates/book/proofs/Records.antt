@@ -4,15 +4,15 @@ use Rattle.std.proofs.lemmas.List.{map-append, take-map, drop-map, length-map}
 use Rattle.fault.specs.declared.Fault.{Fault}
 use Rattle.fault.specs.declared.Refusal.{Refusal}
 use Rattle.calls.specs.declared.call.Call.{Call}
-use Rattle.calls.specs.declared.call.Call.TheVariants.{Read, LockedRead, MasterRead}
+use Rattle.calls.specs.declared.call.Call.TheVariants.{Read, Write as Post, Unposted, LockedRead, LockedWrite, MasterRead, MasterWrite}
 use Rattle.port.specs.declared.Store.{Store}
 use Rattle.port.specs.Memory.{Memory, State, applied}
 use Rattle.port.proofs.Settling.{applied-append}
 use Rattle.book.specs.declared.answer.Answer.{Answer}
 use Rattle.book.specs.declared.answer.Answer.TheVariants.{Done}
-use Rattle.book.specs.Tables.{if_taken, posts, masters_writes, locks_writes, Rule, none, some, one_or_more, all}
+use Rattle.book.specs.Tables.{if_taken, posts, masters_writes, Rule, none, some, one_or_more, all}
 use Rattle.book.specs.Book.{Book, refused, joins, masters, waiting_line, step, rule, Admits, says, unless, told, answer}
-use Rattle.book.specs.Runs.{Moment, moment, after, Follows, if_ok, Entry, entry_of, marked, Ledger, joined, entered, ledger, total}
+use Rattle.book.specs.Runs.{Moment, moment, after, Follows, if_ok, Entry, entry_of, marked, own_write, masters_write, locked_write, Ledger, joined, entered, ledger, total}
 
 -- ACCEPTED WRITES, read off the answers
 
@@ -24,7 +24,7 @@ if_ok_none (Err fault) = refl
 pub record Writeless (c : Call) : Type 0 where
   pub no_post : posts c ≡ []
   pub no_master : masters_writes c ≡ []
-  pub no_lock : locks_writes c ≡ []
+  pub no_lock : locked_write c ≡ []
 
 writes_or_not : (s : State) (c : Call) → (says s c ≡ Ok Done) ⊎ Writeless c
 writes_or_not s (Read w) = inr (record { no_post = refl; no_master = refl; no_lock = refl })
@@ -32,7 +32,7 @@ writes_or_not s (LockedRead w) = inr (record { no_post = refl; no_master = refl;
 writes_or_not s (MasterRead w) = inr (record { no_post = refl; no_master = refl; no_lock = refl })
 writes_or_not s c = inl refl
 
-none_taken : {X : Type 0} (o : Option Refusal) → if_taken {X = List X} o [] [] ≡ []
+pub none_taken : {X : Type 0} (o : Option Refusal) → if_taken {X = List X} o [] [] ≡ []
 none_taken None = refl
 none_taken (Some x) = refl
 
@@ -46,14 +46,29 @@ took_of b c xs (inl e) =
 took_of b c xs (inr e) =
     ap (λ (x : List Store). if_ok (answer b c) x) e ∙ if_ok_none (answer b c) ∙ sym (none_taken (refused b c)) ∙ ap (λ (x : List Store). if_taken (refused b c) x []) (sym e)
 
-pub took_posts : (b : Book) (c : Call) → if_ok (answer b c) (posts c) ≡ joins b c
-took_posts b c = took_of b c (posts c) (elim (writes_or_not b.state c) [ inl e ↦ inl e | inr e ↦ inr e.no_post ])
+-- the plain tables of writes are those of the deeds
+own_is : (c : Call) → own_write c ≡ posts c
+own_is (Post s) = refl
+own_is (Unposted s) = refl
+own_is (LockedWrite s) = refl
+own_is c = refl
 
-pub took_masters : (b : Book) (c : Call) → if_ok (answer b c) (masters_writes c) ≡ masters b c
-took_masters b c = took_of b c (masters_writes c) (elim (writes_or_not b.state c) [ inl e ↦ inl e | inr e ↦ inr e.no_master ])
+masters_is : (c : Call) → masters_write c ≡ masters_writes c
+masters_is (MasterWrite s) = refl
+masters_is c = refl
 
-pub took_locks : (b : Book) (c : Call) → if_ok (answer b c) (locks_writes c) ≡ if_taken (refused b c) (locks_writes c) []
-took_locks b c = took_of b c (locks_writes c) (elim (writes_or_not b.state c) [ inl e ↦ inl e | inr e ↦ inr e.no_lock ])
+pub took_posts : (b : Book) (c : Call) → if_ok (answer b c) (own_write c) ≡ joins b c
+took_posts b c =
+    ap (λ (ws : List Store). if_ok (answer b c) ws) (own_is c) ∙
+    took_of b c (posts c) (elim (writes_or_not b.state c) [ inl e ↦ inl e | inr e ↦ inr e.no_post ])
+
+pub took_masters : (b : Book) (c : Call) → if_ok (answer b c) (masters_write c) ≡ masters b c
+took_masters b c =
+    ap (λ (ws : List Store). if_ok (answer b c) ws) (masters_is c) ∙
+    took_of b c (masters_writes c) (elim (writes_or_not b.state c) [ inl e ↦ inl e | inr e ↦ inr e.no_master ])
+
+pub took_locks : (b : Book) (c : Call) → if_ok (answer b c) (locked_write c) ≡ if_taken (refused b c) (locked_write c) []
+took_locks b c = took_of b c (locked_write c) (elim (writes_or_not b.state c) [ inl e ↦ inl e | inr e ↦ inr e.no_lock ])
 
 -- THE LEDGER AND THE BOOK
 
@@ -65,7 +80,7 @@ pub record Tells (m : Memory) (p : ℕ → Bool) (b : Book) (l : Ledger) : Type 
   pub settled : l.settled ≡ marked p writes
   pub memory : b.state.settled ≡ applied p writes m
 
-joined_is : (p : ℕ → Bool) (b : Book) (l : Ledger) (c : Call) (k : ℕ) → l.waiting ≡ marked p b.state.waiting
+pub joined_is : (p : ℕ → Bool) (b : Book) (l : Ledger) (c : Call) (k : ℕ) → l.waiting ≡ marked p b.state.waiting
     → l.waiting ++ joined p (moment c (answer b c) k) ≡ marked p (waiting_line b c)
 joined_is p b l c k e =
     ap₂ (λ (xs : List Entry) (ys : List Store). xs ++ marked p ys) e (took_posts b c) ∙ sym (map-append (entry_of p) b.state.waiting (joins b c))

@@ -9,7 +9,7 @@ use Rattle.calls.specs.declared.call.Call.TheVariants.{Read, LockedRead, MasterR
 use Rattle.port.specs.declared.Store.{Store}
 use Rattle.port.specs.Lanes.{Lane, byte}
 use Rattle.port.specs.declared.Port.{Ghosts}
-use Rattle.port.specs.Memory.{Memory, State, seen, applied, posted, drained}
+use Rattle.port.specs.Memory.{Memory, Facts, State, seen, applied, posted, drained}
 use Rattle.port.specs.Steps.{Drains}
 use Rattle.book.specs.declared.answer.Mode.{Mode}
 use Rattle.book.specs.declared.answer.Mode.TheVariants.{Free, Locked}
@@ -19,11 +19,12 @@ use Rattle.book.specs.Tables.{if_locked, in_range, if_taken, posts, masters_writ
 use Rattle.book.specs.Book.{Book, book_of, first, refused, joins, masters, mastered, waiting_line, settle, step, rule, Admits, Allowed, says, unless, told, answer}
 use Rattle.book.specs.Calling.{Called}
 use Rattle.book.specs.Runs.{Moment, moment, calls_of, answers_of, after, Follows, Entry, ledger, blank, locked_writes}
-use Rattle.book.specs.Promise.{Comes, ReadsAreNewest, LockedMemoryIsTheLocks, CallsMade, none_made, one_more, NeverAnOldDigit, BothKeep, TheBookIsSound}
+use Rattle.book.specs.Promise.{Comes, ReadsAreNewest, MastersReadsAreSettled, AnsweredIn, AllIn, AnswersKeepTheModes, AsManySettleAsSaid, OnlyTheHolderWrites, ALockHolds, CallsMade, none_made, one_more, NeverAnOldDigit, BothKeep, TheBookIsSound}
 use Rattle.book.proofs.Counts.{settle_none}
 use Rattle.book.proofs.Bytes.{comes, one_source}
 use Rattle.book.proofs.Records.{Tells, tells_run, once, many, front, back}
-use Rattle.book.proofs.Locks.{Calm, calm_run, locked_run}
+use Rattle.book.proofs.Locks.{Calm, calm_step, calm_run, locked_run, now_locked, held}
+use Rattle.book.proofs.Modes.{answered, facts_stay, all_in, modes_follow, as_many}
 use Rattle.book.proofs.Sameness.{both_none, is_locked, heard_alike, like_first}
 
 -- CALLS MADE FOLLOW THE BOOK
@@ -94,13 +95,59 @@ reads_are_newest s run f before later m a v lane split which e =
 
 -- UNDER A LOCK
 
-locked_memory : (s : State) (run : List Moment) → Follows (first s) run → LockedMemoryIsTheLocks s run
-locked_memory s run f before under later split locked held =
+a_lock_holds : (s : State) (run : List Moment) → Follows (first s) run → ALockHolds s run
+a_lock_holds s run f before under later m split is locks unlocked =
     let g = subst (Follows (first s)) split f in
-    let early = front (first s) before (under ++ later) g in
-    let b = after (first s) before in
-    let out = locked_run b under (calm_run (first s) before early (calm_first s) locked) (front b under later (back (first s) before (under ++ later) g)) held in
-    (out.0 ∙ ap (λ (p : ℕ → Bool). applied p (locked_writes under) b.state.settled) (tells_run (seen s) s.protected (first s) blank before early (tells_first s)).marks, out.1)
+    let early = front (first s) before (m ∷ (under ++ later)) g in
+    let here = back (first s) before (m ∷ (under ++ later)) g in
+    let a = after (first s) before in
+    let b = step a m.call m.count in
+    let at : after (first s) (before ++ (m ∷ [])) ≡ b = after-append (first s) before (m ∷ []) in
+    let begun = follows-append (first s) before (m ∷ []) early (here.0, here.1, tt) in
+    let rest = front b under later here.2 in
+    let calm = calm_step a m.call m.count here.0 (calm_run (first s) before early (calm_first s)) in
+    let locked : b.mode ≡ Locked =
+    ap (λ (c : Call). (step a c m.count).mode) is ∙ now_locked a m.count (ap (answer a) (sym is) ∙ sym here.1 ∙ locks) in
+    let hold = held b under locked rest unlocked in
+    let out = locked_run b under (calm locked) rest hold in
+    let marks = (tells_run (seen s) s.protected (first s) blank (before ++ (m ∷ [])) begun (tells_first s)).marks in
+    let F : Book → Type 0 = λ x. OnlyTheHolderWrites s under x (after x under) in (
+      subst (λ (f : Facts). AllIn f.floor Locked under) (facts_stay (first s) before) (all_in b under rest hold),
+      subst F (sym at) (record {
+        settled = out.0 ∙ ap (λ (p : ℕ → Bool). applied p (locked_writes under) b.state.settled) (ap (λ (x : Book). x.state.protected) (sym at) ∙ marks);
+        waiting = out.1;
+      }),
+    )
+
+-- THE OTHER RULES OF THE BOARD, read off the run
+
+masters_reads : (s : State) (run : List Moment) → Follows (first s) run → MastersReadsAreSettled s run
+masters_reads s run f before later m a v lane split is e =
+    let p = s.protected in
+    let g = subst (Follows (first s)) split f in
+    let early = front (first s) before (m ∷ later) g in
+    let here = back (first s) before (m ∷ later) g in
+    let d = after (first s) before in
+    let t = tells_run (seen s) p (first s) blank before early (tells_first s) in
+    let word = (said d.state.facts.floor (MasterRead a) (refused d (MasterRead a)) (d.state.settled.readable a) (d.state.settled.word a) v (ap (answer d) (sym is) ∙ sym here.1 ∙ e)).1 in
+    let same : (applied p [] (applied p t.writes (seen s))).word a ≡ v = ap (λ (x : Memory). x.word a) (sym t.memory) ∙ word in
+    subst (λ (x : ℕ). Comes lane a [] (ledger p blank before).settled ((seen s).word a) (byte lane x)) same
+    (subst (λ (ys : List Entry). Comes lane a [] ys ((seen s).word a) (byte lane ((applied p [] (applied p t.writes (seen s))).word a))) (sym t.settled)
+    (comes p lane a [] t.writes (seen s)))
+
+keeps_the_modes : (s : State) (run : List Moment) → Follows (first s) run → AnswersKeepTheModes s run
+keeps_the_modes s run f before later m split =
+    let g = subst (Follows (first s)) split f in
+    let here = back (first s) before (m ∷ later) g in
+    subst₂ (λ (f : Facts) (n : Mode). AnsweredIn f.floor n m) (facts_stay (first s) before) (modes_follow (first s) before (front (first s) before (m ∷ later) g))
+    (answered (after (first s) before) m here.1)
+
+as_many_settle : (s : State) (run : List Moment) → Follows (first s) run → AsManySettleAsSaid s run
+as_many_settle s run f before later m a split ok =
+    let g = subst (Follows (first s)) split f in
+    let here = back (first s) before (m ∷ later) g in
+    let t = tells_run (seen s) s.protected (first s) blank before (front (first s) before (m ∷ later) g) (tells_first s) in
+    as_many (seen s) s.protected (after (first s) before) (ledger s.protected blank before) m a t here.0 here.1 ok
 
 -- THE PROMISE
 
@@ -122,7 +169,11 @@ keeps G p made run m q d e c =
       ends_as_the_book = f.left;
       reads_are_newest = reads_are_newest s run f.follows;
       alike_starts_answer_alike = λ other ms alike quiet same h. heard_alike (first s) (first other) run ms (like_first s other alike) f.follows h same quiet;
-      locked_memory_is_the_locks = locked_memory s run f.follows;
+      masters_reads_are_settled = masters_reads s run f.follows;
+      answers_keep_the_modes = keeps_the_modes s run f.follows;
+      left_in_the_mode = ap (λ (b : Book). b.mode) f.left ∙ modes_follow (first s) run f.follows;
+      as_many_settle_as_said = as_many_settle s run f.follows;
+      a_lock_holds = a_lock_holds s run f.follows;
       each_write_settles_once = record {
         once = once s.protected blank run refl;
         many = let h = many (seen s) s.protected (first s) blank run f.follows (tells_first s) in omega (arith, h);

@@ -15,7 +15,7 @@ use Rattle.book.specs.declared.answer.Answer.TheVariants.{Word}
 use Rattle.book.specs.Tables.{stop, in_range, or_else, refusal, if_taken, if_locked, posts, masters_writes, goes_to}
 use Rattle.book.specs.Book.{Book, first, refused, joins, masters, waiting_line, step, Allowed, reading, says, unless, told, answer}
 use Rattle.fault.specs.declared.Fault.{Fault}
-use Rattle.book.specs.Runs.{Moment, calls_of, Follows, if_ok, Quiet, Turned, heard, all_heard}
+use Rattle.book.specs.Runs.{Moment, calls_of, Follows, if_ok, masters_write, Quiet, Turned, heard, all_heard}
 use Rattle.book.specs.Promise.{Alike}
 use Rattle.book.proofs.Locks.{Calm, calm_step}
 use Rattle.book.proofs.Records.{took_masters}
@@ -156,7 +156,7 @@ heard_alike b d (m ∷ run) (n ∷ other) h p q e quiet =
     let same = same_calls n m other run e in
     let allowed : Allowed d m.call n.count = subst (λ (c : Call). Allowed d c n.count) same.0 q.0 in
     let later : Follows (step d m.call n.count) other = subst (λ (c : Call). Follows (step d c n.count) other) same.0 q.2 in
-    let none : masters b m.call ≡ [] = sym (took_masters b m.call) ∙ ap (λ (r : Result Answer Fault). if_ok r (masters_writes m.call)) (sym p.1) ∙ quiet.0 in
+    let none : masters b m.call ≡ [] = sym (took_masters b m.call) ∙ ap (λ (r : Result Answer Fault). if_ok r (masters_write m.call)) (sym p.1) ∙ quiet.0 in
     ap₂ {C = List (Result Answer Turned)} (λ x xs. x ∷ xs)
     (ap (heard m.call) p.1 ∙ answer_alike b d h m.call ∙ ap (λ (c : Call). heard c (answer d c)) (sym same.0) ∙ ap (heard n.call) (sym q.1))
     (heard_alike (step b m.call m.count) (step d m.call n.count) run other (like_step b d m.call m.count n.count h none p.0 allowed) p.2 later same.1 quiet.1)

@@ -1,20 +1,23 @@
 -- The promise that the processor never sees an old digit.
-use Rattle.std.specs.Prelude.{◌≡◌, ℕ, ◌<◌, Bool, true, false, not, ◌&&◌, ◌⊎◌, List, [], ◌∷◌, ◌++◌, length, Ok, Err, Result, ◌==◌}
+use Rattle.std.specs.Prelude.{◌≡◌, ℕ, ◌<◌, ◌≤◌, Bool, true, false, not, ◌&&◌, ◌⊎◌, List, [], ◌∷◌, ◌++◌, length, Some, None, Ok, Err, Option, Result, ◌==◌}
 use Rattle.fault.specs.declared.Fault.{Fault}
-use Rattle.fault.specs.declared.Refusal.TheVariants.{Unreadable}
+use Rattle.fault.specs.declared.Refusal.{Refusal}
+use Rattle.fault.specs.declared.Refusal.TheVariants.{Unreadable, Locked as IsLocked, Granted as IsGranted, NotLocked, NotGranted}
+use Rattle.fault.specs.Numbers.{number_of}
 use Rattle.calls.specs.declared.call.Call.{Call}
-use Rattle.calls.specs.declared.call.Call.TheVariants.{Read, LockedRead}
+use Rattle.calls.specs.declared.call.Call.TheVariants.{Read, Write as Post, Unposted, Advance, Lock, LockedRead, LockedWrite, Unlock, Ask, MasterRead, MasterWrite, Give, Snoop, Flush}
 use Rattle.port.specs.Lanes.{Lane, byte, covers}
 use Rattle.port.specs.declared.Port.{Ghosts}
-use Rattle.port.specs.Memory.{State, seen, applied, drained, line_of}
+use Rattle.port.specs.Memory.{State, floor_above, seen, applied, drained, line_of}
 use Rattle.port.specs.Steps.{Drains}
 use Rattle.book.specs.declared.answer.Mode.{Mode}
-use Rattle.book.specs.declared.answer.Mode.TheVariants.{Free, Locked}
+use Rattle.book.specs.declared.answer.Mode.TheVariants.{Free, Locked, Granted}
 use Rattle.book.specs.declared.answer.Answer.{Answer}
-use Rattle.book.specs.declared.answer.Answer.TheVariants.{Word}
-use Rattle.book.specs.Book.{Book, book_of, first, step, answer, Allowed}
+use Rattle.book.specs.declared.answer.Answer.TheVariants.{Done, Word}
+use Rattle.book.specs.Tables.{Rule, none, some, one_or_more, all}
+use Rattle.book.specs.Book.{Book, book_of, first, step, answer, Allowed, Admits}
 use Rattle.book.specs.Calling.{Called}
-use Rattle.book.specs.Runs.{Moment, moment, calls_of, answers_of, after, Follows, Entry, ledger, blank, total, Quiet, locked_writes, Held, all_heard}
+use Rattle.book.specs.Runs.{Moment, moment, calls_of, answers_of, after, Follows, Entry, ledger, blank, joined, mode_by, total, Quiet, locked_writes, NoneUnlocks, all_heard}
 
 -- WHERE A BYTE COMES FROM
 
@@ -47,6 +50,13 @@ ReadsAreNewest start run =
     → (m.call ≡ Read a) ⊎ (m.call ≡ LockedRead a) → m.answer ≡ Ok (Word v)
     → let l = ledger start.protected blank before in Comes lane a l.waiting l.settled ((seen start).word a) (byte lane v)
 
+-- A master's read that was answered by a word: each byte is of the last write that settled, whatever waits.
+abbrev pub MastersReadsAreSettled : State → List Moment → Type 0
+MastersReadsAreSettled start run =
+    (before later : List Moment) (m : Moment) (a v : ℕ) (lane : Lane) → run ≡ before ++ (m ∷ later)
+    → m.call ≡ MasterRead a → m.answer ≡ Ok (Word v)
+    → let l = ledger start.protected blank before in Comes lane a [] l.settled ((seen start).word a) (byte lane v)
+
 -- ALIKE STARTS
 
 -- Two ports that begin alike: size, marks of each line, and each word below the end. Floors may differ.
@@ -63,15 +73,79 @@ AlikeStartsAnswerAlike start run =
     (other : State) (ms : List Moment) → Alike start other → Quiet run → calls_of ms ≡ calls_of run → Follows (first other) ms
     → all_heard run ≡ all_heard ms
 
--- UNDER A LOCK
+-- MODES, read off the calls and their answers
 
--- As long as the board is locked, settled memory changes by the lock's own writes, in order, and by nothing else, and nothing waits.
-abbrev pub LockedMemoryIsTheLocks : State → List Moment → Type 0
-LockedMemoryIsTheLocks start run =
-    (before under later : List Moment) → run ≡ before ++ (under ++ later) → let b = after (first start) before in
-    let e = after b under in
-    b.mode ≡ Locked → Held b under
-    → (e.state.settled ≡ applied start.protected (locked_writes under) b.state.settled) × (e.state.waiting ≡ [])
+-- A refusal when free, when locked, and when granted.
+abbrev pub in_mode : Option Refusal → Option Refusal → Option Refusal → Mode → Option Refusal
+in_mode free locked granted Free = free
+in_mode free locked granted Locked = locked
+in_mode free locked granted Granted = granted
+
+abbrev pub turned_away : Call → Mode → Option Refusal
+turned_away (Read w) = in_mode None (Some IsLocked) None
+turned_away (Post s) = in_mode None (Some IsLocked) None
+turned_away (Unposted s) = in_mode None (Some IsLocked) None
+turned_away Advance = in_mode None None None
+turned_away Lock = in_mode None (Some IsLocked) (Some IsGranted)
+turned_away (LockedRead w) = in_mode (Some NotLocked) None (Some NotLocked)
+turned_away (LockedWrite s) = in_mode (Some NotLocked) None (Some NotLocked)
+turned_away Unlock = in_mode (Some NotLocked) None (Some NotLocked)
+turned_away Ask = in_mode None (Some IsLocked) (Some IsGranted)
+turned_away (MasterRead w) = in_mode (Some NotGranted) (Some NotGranted) None
+turned_away (MasterWrite s) = in_mode (Some NotGranted) (Some NotGranted) None
+turned_away Give = in_mode (Some NotGranted) (Some NotGranted) None
+turned_away (Snoop w) = in_mode None None None
+turned_away Flush = in_mode None None None
+
+-- Where a refusal is told: at the word of the call, or at 0 if it has none.
+abbrev pub told_at : Call → ℕ
+told_at (Read w) = w
+told_at (Post s) = s.word
+told_at (Unposted s) = s.word
+told_at Advance = 0
+told_at Lock = 0
+told_at (LockedRead w) = w
+told_at (LockedWrite s) = s.word
+told_at Unlock = 0
+told_at Ask = 0
+told_at (MasterRead w) = w
+told_at (MasterWrite s) = s.word
+told_at Give = 0
+told_at (Snoop w) = w
+told_at Flush = 0
+
+-- On a port of this floor, a call that its mode turns away is refused as said, on the board's floor. Any other is, if at all, for its word or
+-- its lanes, on the port's floor, or for a word that cannot be read, on floor 0.
+pub record AnsweredIn (floor : ℕ) (n : Mode) (m : Moment) : Type 0 where
+  pub turned : (x : Refusal) → turned_away m.call n ≡ Some x → m.answer ≡ Err (record { refusal = x; place = told_at m.call; floor = floor_above floor })
+  pub served : (fault : Fault) → turned_away m.call n ≡ None → m.answer ≡ Err fault → number_of fault.refusal ≤ 3
+  pub place : (fault : Fault) → turned_away m.call n ≡ None → m.answer ≡ Err fault → fault.place ≡ told_at m.call
+  pub below : (fault : Fault) → turned_away m.call n ≡ None → m.answer ≡ Err fault → number_of fault.refusal ≤ 2 → fault.floor ≡ floor
+  pub unreadable : (fault : Fault) → m.answer ≡ Err fault → number_of fault.refusal ≡ 3 → fault.floor ≡ 0
+
+-- Each call is answered as the mode wants that the answers before it led to.
+abbrev pub AnswersKeepTheModes : State → List Moment → Type 0
+AnswersKeepTheModes start run =
+    (before later : List Moment) (m : Moment) → run ≡ before ++ (m ∷ later) → AnsweredIn start.facts.floor (mode_by Free before) m
+
+abbrev pub AllIn : ℕ → Mode → List Moment → Type 0
+AllIn floor n [] = Unit {0}
+AllIn floor n (m ∷ ms) = AnsweredIn floor n m × AllIn floor n ms
+
+-- UNDER A LOCK, read off the calls and their answers
+
+-- Settled memory changed by the holder's own writes, in order, and by nothing else, and nothing waits.
+pub record OnlyTheHolderWrites (start : State) (under : List Moment) (b e : Book) : Type 0 where
+  pub settled : e.state.settled ≡ applied start.protected (locked_writes under) b.state.settled
+  pub waiting : e.state.waiting ≡ []
+
+-- From a lock that is answered as done until an unlock is: whatever else wants the board is refused, and only the holder writes.
+abbrev pub ALockHolds : State → List Moment → Type 0
+ALockHolds start run =
+    (before under later : List Moment) (m : Moment) → run ≡ before ++ (m ∷ (under ++ later))
+    → m.call ≡ Lock → m.answer ≡ Ok Done → NoneUnlocks under
+    → let b = after (first start) (before ++ (m ∷ [])) in
+    AllIn start.facts.floor Locked under × OnlyTheHolderWrites start under b (after b under)
 
 -- ONCE AND IN ORDER
 
@@ -79,6 +153,28 @@ LockedMemoryIsTheLocks start run =
 pub record EachWriteSettlesOnce (start : State) (run : List Moment) : Type 0 where
   pub once : (ledger start.protected blank run).own ++ (ledger start.protected blank run).waiting ≡ (ledger start.protected blank run).accepted
   pub many : length (ledger start.protected blank run).own ≡ total run
+
+-- How many of the waiting writes settle at a call that is taken.
+abbrev pub settles_at : Call → Rule
+settles_at (Read w) = some
+settles_at (Post s) = some
+settles_at (Unposted s) = all
+settles_at Advance = one_or_more
+settles_at Lock = all
+settles_at (LockedRead w) = none
+settles_at (LockedWrite s) = all
+settles_at Unlock = none
+settles_at Ask = none
+settles_at (MasterRead w) = none
+settles_at (MasterWrite s) = none
+settles_at Give = none
+settles_at (Snoop w) = none
+settles_at Flush = none
+
+abbrev pub AsManySettleAsSaid : State → List Moment → Type 0
+AsManySettleAsSaid start run =
+    (before later : List Moment) (m : Moment) (r : Answer) → run ≡ before ++ (m ∷ later) → m.answer ≡ Ok r
+    → Admits (settles_at m.call) (length ((ledger start.protected blank before).waiting ++ joined start.protected m)) m.count
 
 -- THE CALLS MADE
 
@@ -105,7 +201,11 @@ pub record NeverAnOldDigit {P : Type 0} (G : Ghosts P) (p : P) (cs : List Call) 
   pub ends_as_the_book : book_of m (G.state q) ≡ after (first (G.state p)) run
   pub reads_are_newest : ReadsAreNewest (G.state p) run
   pub alike_starts_answer_alike : AlikeStartsAnswerAlike (G.state p) run
-  pub locked_memory_is_the_locks : LockedMemoryIsTheLocks (G.state p) run
+  pub masters_reads_are_settled : MastersReadsAreSettled (G.state p) run
+  pub answers_keep_the_modes : AnswersKeepTheModes (G.state p) run
+  pub left_in_the_mode : m ≡ mode_by Free run
+  pub as_many_settle_as_said : AsManySettleAsSaid (G.state p) run
+  pub a_lock_holds : ALockHolds (G.state p) run
   pub each_write_settles_once : EachWriteSettlesOnce (G.state p) run
 
 -- Two runs of the same calls are heard alike if their ports began alike and no master's write was accepted.

@@ -1,14 +1,16 @@
 -- Many calls one after another, and the record that they leave.
-use Rattle.std.specs.Prelude.{◌≡◌, ℕ, ◌+◌, Bool, List, [], ◌∷◌, ◌++◌, map, take, drop, Ok, Err, Result}
+use Rattle.std.specs.Prelude.{◌≡◌, ◌≢◌, ℕ, ◌+◌, Bool, List, [], ◌∷◌, ◌++◌, map, take, drop, Ok, Err, Result}
 use Rattle.fault.specs.declared.Fault.{Fault}
 use Rattle.fault.specs.Numbers.{number_of}
 use Rattle.calls.specs.declared.call.Call.{Call}
+use Rattle.calls.specs.declared.call.Call.TheVariants.{Read, Write as Post, Unposted, Advance, Lock, LockedRead, LockedWrite, Unlock, Ask, MasterRead, MasterWrite, Give, Snoop, Flush}
 use Rattle.port.specs.declared.Store.{Store}
 use Rattle.port.specs.Memory.{line_of}
-use Rattle.book.specs.declared.answer.Mode.TheVariants.{Locked}
+use Rattle.book.specs.declared.answer.Mode.{Mode}
+use Rattle.book.specs.declared.answer.Mode.TheVariants.{Free, Locked, Granted}
 use Rattle.book.specs.declared.answer.Answer.{Answer}
 use Rattle.book.specs.declared.answer.Answer.TheVariants.{Done}
-use Rattle.book.specs.Tables.{Takers, every, unlocked, free, locked, granted, deed, posts, masters_writes, locks_writes}
+use Rattle.book.specs.Tables.{Takers, every, unlocked, free, locked, granted, deed}
 use Rattle.book.specs.Book.{Book, step, answer, Allowed}
 
 -- One call of a run, its answer, and how many of the waiting writes settled at it.
@@ -43,6 +45,39 @@ abbrev pub if_ok : {X : Type 0} → Result Answer Fault → List X → List X
 if_ok (Ok a) xs = xs
 if_ok (Err fault) xs = []
 
+-- The write that a call brings: the processor's, and the display unit's.
+abbrev pub own_write : Call → List Store
+own_write (Read w) = []
+own_write (Post s) = s ∷ []
+own_write (Unposted s) = s ∷ []
+own_write Advance = []
+own_write Lock = []
+own_write (LockedRead w) = []
+own_write (LockedWrite s) = s ∷ []
+own_write Unlock = []
+own_write Ask = []
+own_write (MasterRead w) = []
+own_write (MasterWrite s) = []
+own_write Give = []
+own_write (Snoop w) = []
+own_write Flush = []
+
+abbrev pub masters_write : Call → List Store
+masters_write (Read w) = []
+masters_write (Post s) = []
+masters_write (Unposted s) = []
+masters_write Advance = []
+masters_write Lock = []
+masters_write (LockedRead w) = []
+masters_write (LockedWrite s) = []
+masters_write Unlock = []
+masters_write Ask = []
+masters_write (MasterRead w) = []
+masters_write (MasterWrite s) = s ∷ []
+masters_write Give = []
+masters_write (Snoop w) = []
+masters_write Flush = []
+
 -- A write, and whether its line was protected when it was taken.
 pub record Entry : Type 0 where
   pub write : Store
@@ -69,10 +104,10 @@ abbrev pub blank : Ledger
 blank = record { waiting = []; settled = []; own = []; accepted = [] }
 
 abbrev pub joined : (ℕ → Bool) → Moment → List Entry
-joined p m = marked p (if_ok m.answer (posts m.call))
+joined p m = marked p (if_ok m.answer (own_write m.call))
 
 abbrev pub passed : (ℕ → Bool) → Moment → List Entry
-passed p m = marked p (if_ok m.answer (masters_writes m.call))
+passed p m = marked p (if_ok m.answer (masters_write m.call))
 
 abbrev pub entered : (ℕ → Bool) → Ledger → Moment → Ledger
 entered p l m = record {
@@ -93,16 +128,59 @@ total (m ∷ ms) = m.count + total ms
 -- No master's write was accepted.
 abbrev pub Quiet : List Moment → Type 0
 Quiet [] = Unit {0}
-Quiet (m ∷ ms) = (if_ok m.answer (masters_writes m.call) ≡ []) × Quiet ms
+Quiet (m ∷ ms) = (if_ok m.answer (masters_write m.call) ≡ []) × Quiet ms
+
+-- The writes of the lock's holder: locked-writes that were answered as done.
+abbrev pub locked_write : Call → List Store
+locked_write (Read w) = []
+locked_write (Post s) = []
+locked_write (Unposted s) = []
+locked_write Advance = []
+locked_write Lock = []
+locked_write (LockedRead w) = []
+locked_write (LockedWrite s) = s ∷ []
+locked_write Unlock = []
+locked_write Ask = []
+locked_write (MasterRead w) = []
+locked_write (MasterWrite s) = []
+locked_write Give = []
+locked_write (Snoop w) = []
+locked_write Flush = []
 
 abbrev pub locked_writes : List Moment → List Store
 locked_writes [] = []
-locked_writes (m ∷ ms) = if_ok m.answer (locks_writes m.call) ++ locked_writes ms
+locked_writes (m ∷ ms) = if_ok m.answer (locked_write m.call) ++ locked_writes ms
 
--- The board is locked before each of the calls.
-abbrev pub Held : Book → List Moment → Type 0
-Held b [] = Unit {0}
-Held b (m ∷ ms) = (b.mode ≡ Locked) × Held (step b m.call m.count) ms
+-- No unlock was answered as done.
+abbrev pub NoneUnlocks : List Moment → Type 0
+NoneUnlocks [] = Unit {0}
+NoneUnlocks (m ∷ ms) = (m.call ≡ Unlock → m.answer ≢ Ok Done) × NoneUnlocks ms
+
+-- THE MODE, read off the answers
+
+abbrev pub leads_to : Mode → Call → Mode
+leads_to n (Read w) = n
+leads_to n (Post s) = n
+leads_to n (Unposted s) = n
+leads_to n Advance = n
+leads_to n Lock = Locked
+leads_to n (LockedRead w) = n
+leads_to n (LockedWrite s) = n
+leads_to n Unlock = Free
+leads_to n Ask = Granted
+leads_to n (MasterRead w) = n
+leads_to n (MasterWrite s) = n
+leads_to n Give = Free
+leads_to n (Snoop w) = n
+leads_to n Flush = n
+
+abbrev pub moved : Mode → Call → Result Answer Fault → Mode
+moved n c (Ok a) = leads_to n c
+moved n c (Err fault) = n
+
+abbrev pub mode_by : Mode → List Moment → Mode
+mode_by n [] = n
+mode_by n (m ∷ ms) = mode_by (moved n m.call m.answer) ms
 
 -- WHAT IS HEARD: words that the processor reads, and refusals by number and place; not what a master reads, nor floors
 

@@ -158,17 +158,6 @@ passing (outside s) = s ∷ []
 abbrev pub masters_writes : Call → List Store
 masters_writes c = passing (deed c).asks
 
--- The write that a call makes for the holder of the lock.
-abbrev pub if_theirs : Takers → List Store → List Store
-if_theirs every ws = []
-if_theirs unlocked ws = []
-if_theirs free ws = []
-if_theirs locked ws = ws
-if_theirs granted ws = []
-
-abbrev pub locks_writes : Call → List Store
-locks_writes c = if_theirs (deed c).takers (posts c)
-
 -- The mode that a call leads to.
 abbrev pub led : Option Mode → Mode → Mode
 led None m = m

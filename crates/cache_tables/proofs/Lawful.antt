@@ -1,25 +1,27 @@
 -- The laws of the rules.
-use Rattle.std.proofs.Common.{◌≡◌, ℕ, zero, suc, ◌≤◌, Bool, true, false, cond, ◌&&◌, ◌≢◌, List, [], ◌∷◌, ◌++◌, Some, None, Option, refl, ap, ◌∙◌, subst, arith, if◌then◌else◌}
+use Rattle.std.proofs.Common.{◌≡◌, ℕ, zero, suc, ◌≤◌, Bool, true, false, cond, ◌&&◌, ◌≢◌, List, [], ◌∷◌, ◌++◌, Some, None, Option, refl, ap, ◌∙◌, subst, eqb, arith}
+use Rattle.std.proofs.lemmas.Bool.{cond-false, ne_eqb}
 use Rattle.std.specs.Option.{option_map_or}
 use Rattle.port.specs.declared.Store.{Store}
 use Rattle.port.specs.Steps.{reads}
 use Rattle.directory.specs.declared.lru.WayNumber.{WayNumber}
-use Rattle.directory.specs.declared.sets.Way.{Way}
 use Rattle.directory.specs.declared.fills.Fill.{Fill}
 use Rattle.directory.specs.Touch.{victim_of}
-use Rattle.directory.specs.Dirs.{Dir, set_of, touched, found, installed, dropped_of, changed}
+use Rattle.directory.specs.Dirs.{Dir, set_of, touched, found, installed, dropped_of}
 use Rattle.port.specs.Memory.{line_of}
 use Rattle.directory.specs.Ticks.{next_word, complete, with_word}
-use Rattle.directory.proofs.Apart.{install_keeps, drop_forgets, change_moves_none}
+use Rattle.directory.specs.Laws.{InstallKeepsOtherLines}
+use Rattle.directory.proofs.Apart.{install_keeps, drop_forgets}
 use Rattle.directory.proofs.Sparing.{touch_spares}
 use Rattle.cache_tables.specs.Showing.{Shown, reading, line_seen, whole}
-use Rattle.cache_tables.specs.Rules.{Model, turn, idle, stowed, fetched_of, finished_of, finished, finish_calls, finish_turn, lacking, buffered_of, hit, touched_of, touched_by, begun_fill, begun, read_after, read_turn, dropped, changed_word, changed_way, changed_of, written, ready_turn}
+use Rattle.cache_tables.specs.Rules.{Model, turn, idle, stowed, fetched_of, finished_of, finished, finish_calls, finish_turn, lacking, buffered_of, hit, touched_of, touched_by, begun_fill, left_of, begun, read_after, read_turn, dropped, changed_way, changed_of, written, ready_turn}
 use Rattle.cache_tables.specs.Coherence.{Coherent}
 use Rattle.cache_tables.specs.Laws.{NamedAtTheMiss, SameLineAndWay, HolderIsSpared, LineIsGone, fetched_times, CachingIsLawful}
 use Rattle.cache_tables.proofs.Keeping.{fetch_keeps, fetch_finishes}
 use Rattle.cache_tables.proofs.Fetching.{shown_kept, fetch_falls}
 use Rattle.cache_tables.proofs.Reading.{buffered_sees, hit_sees, none_found}
 use Rattle.cache_tables.proofs.Changing.{left_some}
+use Rattle.cache_tables.proofs.Staying.{buffered_leaves_all, hits_only_touch, late_hits_touch, misses_ask_once, misses_else_nothing, misses_fill, same_lines, writes_only_touch, writes_land, advances_fetch_one, advances_else_nothing}
 
 named : (v : Shown) (d : Dir) (w : ℕ) (b : Fill) → (begun v d w).fill ≡ Some b → NamedAtTheMiss v d w b
 named v d w b = by_tests (v.readable w) (v.cacheable (line_of w)) refl
@@ -46,7 +48,7 @@ goes_on v d (Some a) b c is e = by_read (v.readable (next_word a)) e
     by_read true e = by_full (complete (with_word a (v.word (next_word a)))) e
     by_read false e = absurd (cc)
 
-finishes : (v : Shown) (n : ℕ) (d : Dir) (f : Option Fill) → Coherent v (record { dir = d; fill = f }) → lacking f ≤ n → fetched_times n v (record { dir = d; fill = f }) ≡ finished_of v d f
+pub finishes : (v : Shown) (n : ℕ) (d : Dir) (f : Option Fill) → Coherent v (record { dir = d; fill = f }) → lacking f ≤ n → fetched_times n v (record { dir = d; fill = f }) ≡ finished_of v d f
 finishes v zero d None c h = refl
 finishes v zero d (Some b) c h = absurd (omega (arith, (c.fill b refl).under.short))
 finishes v (suc n) d None c h = finishes v n d None c (omega arith)
@@ -57,6 +59,7 @@ finishes v (suc n) d (Some b) c h =
 gone : (v : Shown) (t : Model) (line : ℕ) → Coherent v t → LineIsGone t (dropped t line) line
 gone v t line c = record {
   buffer = λ b e. (left_some line t.fill b e).1;
+  goes_on = λ b e n. ap (left_of line) e ∙ cond-false (eqb b.line line) None (Some b) (ne_eqb b.line line n);
   way = (drop_forgets t.dir line c.apart).gone;
   others = (drop_forgets t.dir line c.apart).others;
   lru = by_answer (found t.dir line);
@@ -91,15 +94,22 @@ lands v d (Some a) b c is r e =
     by_read false q e = absurd (cc)
 
 ends_there : (v : Shown) (d : Dir) (f : Option Fill) (b : Fill) → Coherent v (record { dir = d; fill = f }) → f ≡ Some b
-    → whole v b.line ≡ true → found (finished_of v d f).dir b.line ≡ Some b.way
+    → whole v b.line ≡ true → InstallKeepsOtherLines d (finished_of v d f).dir b.line b.way
 ends_there v d None b c is r = absurd (cc)
 ends_there v d (Some a) b c is r =
     let same : a ≡ b = cc in
-    subst (λ (x : Fill). found (finished_of v d (Some a)).dir x.line ≡ Some x.way) same (by_whole (whole v a.line) (ap (λ (x : Fill). whole v x.line) same ∙ r))
+    subst (λ (x : Fill). InstallKeepsOtherLines d (finished_of v d (Some a)).dir x.line x.way) same (by_whole (whole v a.line) (ap (λ (x : Fill). whole v x.line) same ∙ r))
   where
-    by_whole : (t : Bool) → t ≡ true → found (cond t (installed d a.line a.way a.protect (line_seen v a.line)) d) a.line ≡ Some a.way
-    by_whole true q = installs_there v d a (line_seen v a.line) c
+    by_whole : (t : Bool) → t ≡ true → InstallKeepsOtherLines d (cond t (installed d a.line a.way a.protect (line_seen v a.line)) d) a.line a.way
+    by_whole true q = install_keeps d a.line a.way a.protect (line_seen v a.line) c.apart (c.fill a refl).absent
     by_whole false q = absurd (cc)
+
+ends_torn : (v : Shown) (d : Dir) (f : Option Fill) (b : Fill) → f ≡ Some b → whole v b.line ≡ false → (finished_of v d f).dir ≡ d
+ends_torn v d f b is r = ap (λ (x : Option Fill). (finished_of v d x).dir) is ∙ cond-false (whole v b.line) _ d r
+
+ends_idle : (v : Shown) (d : Dir) (f : Option Fill) → (finished_of v d f).fill ≡ None
+ends_idle v d None = refl
+ends_idle v d (Some b) = refl
 
 -- ---- the way that holds a line that was read or written
 
@@ -139,19 +149,11 @@ module _ (v : Shown) (t : Model) (w : ℕ) where
 write_spares : (t : Model) (w : Store) → HolderIsSpared (written t w) w.word
 write_spares t w = by_answer (found t.dir (line_of w.word)) refl
   where
-    same_lines : (k : WayNumber) (o : Option Way) (line : ℕ) → found (changed_way t.dir w k o) line ≡ found t.dir line
-    same_lines k None line = refl
-    same_lines k (Some y) line = by_mark y.protect
-      where
-        by_mark : (p : Bool) → found (if p then t.dir else changed t.dir w.word k (changed_word w y)) line ≡ found t.dir line
-        by_mark true = refl
-        by_mark false = change_moves_none t.dir w.word k (changed_word w y) line
-
     by_answer : (o : Option WayNumber) → found t.dir (line_of w.word) ≡ o → HolderIsSpared (record { dir = changed_of t.dir w o; fill = t.fill }) w.word
     by_answer None e k h = absurd (cc)
     by_answer (Some j) e k h =
         let new = changed_way t.dir w j (t.dir.way (set_of (line_of w.word)) j) in
-        let there : found new (line_of w.word) ≡ found t.dir (line_of w.word) = same_lines j (t.dir.way (set_of (line_of w.word)) j) (line_of w.word) in
+        let there : found new (line_of w.word) ≡ found t.dir (line_of w.word) = same_lines t.dir w j (t.dir.way (set_of (line_of w.word)) j) (line_of w.word) in
         touch_spares_it (record { dir = new; fill = t.fill }) w.word (Some j) (there ∙ e) k h
 
 pub caching_is_lawful : CachingIsLawful
@@ -161,9 +163,20 @@ caching_is_lawful = record {
   begins = named;
   goes_on = λ v t. goes_on v t.dir t.fill;
   finishes = λ v t c. finishes v (lacking t.fill) t.dir t.fill c (omega arith);
-  lands = λ v t b c is. record { word_by_word = lands v t.dir t.fill b c is; at_once = ends_there v t.dir t.fill b c is };
+  lands = λ v t b c is. record { word_by_word = lands v t.dir t.fill b c is; at_once = ends_there v t.dir t.fill b c is; torn = ends_torn v t.dir t.fill b is; ends = ends_idle v t.dir t.fill };
   reads_touch = read_spares;
   writes_touch = λ v t w r. write_spares (ready_turn v t (line_of w.word)).tables w;
   snoops_forget = λ v t w r. gone v t (line_of w);
   outsides_forget = λ v t w r. gone v t (line_of w.word);
+  flushes_forget = record { lines = λ line. refl; marks = λ i. refl; fill = refl };
+  buffered_leaves_all = buffered_leaves_all;
+  hits_only_touch = hits_only_touch;
+  late_hits_touch = late_hits_touch;
+  misses_ask_once = misses_ask_once;
+  misses_else_nothing = misses_else_nothing;
+  misses_fill = misses_fill;
+  writes_only_touch = writes_only_touch;
+  writes_land = λ v t w r b c. writes_land v t w r c b;
+  advances_fetch_one = λ v t. advances_fetch_one v t.dir t.fill;
+  advances_else_nothing = advances_else_nothing;
 }

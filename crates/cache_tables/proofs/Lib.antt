@@ -4,5 +4,6 @@ pub mod Keeping
 pub mod Fetching
 pub mod Reading
 pub mod Changing
+pub mod Staying
 pub mod Lawful
 pub mod Trying

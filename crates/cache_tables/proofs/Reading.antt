@@ -99,12 +99,12 @@ ones_zero = refl
 nothing_ticked : (p : ℕ) → ticked 0 p ≡ false
 nothing_ticked p = ap (λ (x : ℕ). eqb x 1) (bit_at-zero p)
 
-nothing_fetched : (w : ℕ) (k : WayNumber) (p : Bool) (a x : ℕ) → fetched_word (starting w k p) a ≡ Some x → ⊥
+pub nothing_fetched : (w : ℕ) (k : WayNumber) (p : Bool) (a x : ℕ) → fetched_word (starting w k p) a ≡ Some x → ⊥
 nothing_fetched w k p a x e =
     let none : fetched_word (starting w k p) a ≡ None = cond-false (eqb (line_of w) (line_of a) && ticked 0 (offset_of a)) _ None (and_right (eqb (line_of w) (line_of a)) (ticked 0 (offset_of a)) (nothing_ticked (offset_of a))) in
     absurd (cc)
 
-starts_there : (w : ℕ) (k : WayNumber) (p : Bool) → next_word (starting w k p) ≡ w
+pub starts_there : (w : ℕ) (k : WayNumber) (p : Bool) → next_word (starting w k p) ≡ w
 starts_there w k p = ap (λ (x : ℕ). line_of w * 8 + x) (ap (bit_xor (offset_of w)) ones_zero ∙ xor_zero_r (offset_of w)) ∙ line_word w
 
 module _ (v : Shown) (d : Dir) (w : ℕ) (c : Coherent v (idle d)) (inside : w < v.words) (absent : found d (line_of w) ≡ None) where
@@ -151,7 +151,7 @@ marks_ok s l k p e = by_answer (within l (s.facts.words / 8) s.facts.floor) e
     by_answer (Ok _) e = (ap first e, ap second e)
     by_answer (Err x) e = absurd (cc)
 
-begun_at : (v : Shown) (d : Dir) (w : ℕ) (r k : Bool) → v.readable w ≡ r → v.cacheable (line_of w) ≡ k →
+pub begun_at : (v : Shown) (d : Dir) (w : ℕ) (r k : Bool) → v.readable w ≡ r → v.cacheable (line_of w) ≡ k →
     begun v d w ≡ cond (r && k) (record { dir = d; fill = Some (begun_fill d w (v.protected (line_of w)) (v.word w)) }) (idle d)
 begun_at v d w r k er ek = rw (er, ek)
 

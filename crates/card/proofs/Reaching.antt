@@ -89,7 +89,7 @@ module _ {P : Type 0} {G : Ghosts P} where
   on_the_stages memory left cs rs waiting held made pile mode fresh handed queue tables lost kept promise counted =
       let top = run_reached (pile_ghosts G) made cs rs mode pile promise in
       let buffer = kept made pile top.calls top.chain in
-      let bottom = lost made.below pile.below buffer.calls buffer.chain in
+      let bottom = lost.run made.below pile.below buffer.calls buffer.chain in
       record {
         made = made;
         fresh = fresh;

@@ -109,7 +109,7 @@ ram_chain_kept b _ _ (then {q = m} {r = c} {d = d} {ds = ds} h rest) = both_kept
 
 -- What a map does to its low side, it does by calls of it.
 chain_kept : EachSideGetsItsOwn ram_ghosts eprom_ghosts → (b c : CardMemory) (ds : List Step) → Chain memory_ghosts.does b ds c → WordsAlone b.low c.low
-chain_kept own b c ds chain = ram_chain_kept b.low c.low (own b c ds chain).0.calls (own b c ds chain).0.chain
+chain_kept own b c ds chain = ram_chain_kept b.low c.low (own b c ds chain).0.gets.calls (own b c ds chain).0.gets.chain
 
 pub names_kept : (b r : RamBank) (m n : CardMemory) → EachSideGetsItsOwn ram_ghosts eprom_ghosts → Drains ram_ghosts.state ram_ghosts.does b m.low → Reached memory_ghosts.does m n → r ≡ n.low → r.lines.ghost_name ≡ b.lines.ghost_name
 names_kept b r m n own d h e =

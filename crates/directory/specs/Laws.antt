@@ -1,15 +1,39 @@
 -- What holds of the tables whatever was done to them.
-use Rattle.std.specs.Prelude.{◌≡◌, ℕ, ◌+◌, ◌^◌, ◌<◌, true, false, ◌≢◌, Some, None, count_ones}
+use Rattle.std.specs.Prelude.{◌≡◌, ℕ, zero, suc, ◌+◌, ◌^◌, ◌<◌, ◌≤◌, true, false, ◌≢◌, List, [], ◌∷◌, find, is_some, Some, None, ◌==◌, nat_lt, count_ones}
 use Rattle.directory.specs.declared.lru.LruBits.{LruBits}
 use Rattle.directory.specs.declared.lru.WayNumber.{WayNumber}
 use Rattle.directory.specs.declared.fills.Fill.{Fill}
-use Rattle.directory.specs.Touch.{touched_bits, victim_of}
+use Rattle.directory.specs.Touch.{index_of, same_way, touched_bits, victim_of}
 use Rattle.directory.specs.Dirs.{Dir, set_of, holds, found, twins}
 use Rattle.directory.specs.Ticks.{ticked, tick, offset_at, next_word, fetched_word}
 
 -- The way just touched is never the next victim.
 abbrev pub TouchedWayIsSpared : Type 0
 TouchedWayIsSpared = (m : LruBits) (k : WayNumber) → victim_of (touched_bits m k) ≢ k
+
+-- The victims of a set where each takes in a line, and nothing else is touched.
+abbrev pub victims : ℕ → LruBits → List WayNumber
+victims zero m = []
+victims (suc n) m = victim_of m ∷ victims n (touched_bits m (victim_of m))
+
+-- The two ways touched last are not the next victim, and each way is one of the next four.
+pub record VictimsGoRound : Type 0 where
+  pub two : (m : LruBits) (j k : WayNumber) → victim_of (touched_bits (touched_bits m j) k) ≢ j
+  pub four : (m : LruBits) (k : WayNumber) → is_some (find (same_way k) (victims 4 m)) ≡ true
+
+-- A touch marks the pair of its way, and the way within that pair. The other pair's mark stays.
+pub record TouchMarksItsPair (before after : LruBits) (k : WayNumber) : Type 0 where
+  pub pair : after.m0 ≡ nat_lt (index_of k) 2
+  pub first : index_of k < 2 → (after.m1 ≡ (index_of k == 0)) × (after.m2 ≡ before.m2)
+  pub second : 2 ≤ index_of k → (after.m2 ≡ (index_of k == 2)) × (after.m1 ≡ before.m1)
+
+abbrev pub EachTouchMarksItsPair : Type 0
+EachTouchMarksItsPair = (m : LruBits) (k : WayNumber) → TouchMarksItsPair m (touched_bits m k) k
+
+-- Of the marks of a directory, those of the line's set are as after a touch of way k, and the others stay.
+pub record WayIsTouched (before after : Dir) (line : ℕ) (k : WayNumber) : Type 0 where
+  pub lru : TouchMarksItsPair (before.lru (set_of line)) (after.lru (set_of line)) k
+  pub others : (i : ℕ) → i ≢ set_of line → after.lru i ≡ before.lru i
 
 -- No two valid ways of a set have the same tag.
 abbrev pub TagsAreApart : Dir → Type 0

@@ -2,7 +2,7 @@
 ghost use Rattle.std.specs.Prelude.{◌≡◌, ℕ, ◌<◌};
 ghost use Rattle.std.specs.Result.{result_ok};
 ghost use Rattle.directory.specs.Touch.{way_numbered, number_of, touched_bits, victim_of};
-ghost use Rattle.directory.specs.Laws.{TouchedWayIsSpared};
+ghost use Rattle.directory.specs.Laws.{TouchedWayIsSpared, EachTouchMarksItsPair, VictimsGoRound};
 
 /// One of the four ways of a set.
 #[derive(Clone, Copy, Debug, PartialEq)]
@@ -127,16 +127,20 @@ impl LruBits {
     }
 
     /// The bits once the way has been touched.
+    #[tactic(auto, using(crate::proofs::Sparing::touch_marks))]
     pub fn touched(self, way: WayNumber) -> LruBits
         ensures value { result ≡ touched_bits self way }
         ensures law { TouchedWayIsSpared }
+        ensures pair { EachTouchMarksItsPair }
     {
         TOUCHED[self.number()][way as usize]
     }
 
     /// The way that the next line replaces. An invalid way is not preferred.
+    #[tactic(auto, using(crate::proofs::Sparing::victims_go_round))]
     pub fn victim(self) -> WayNumber
-        ensures { result ≡ victim_of self }
+        ensures value { result ≡ victim_of self }
+        ensures law { VictimsGoRound }
     {
         match (self.m0, self.m1, self.m2) {
             (false, false, _) => WayNumber::Zero,

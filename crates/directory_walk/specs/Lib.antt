@@ -1,2 +1,3 @@
 pub mod StartUp
 pub mod Walks
+pub mod Finds

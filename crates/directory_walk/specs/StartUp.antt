@@ -5,14 +5,16 @@ use Rattle.fault.specs.declared.Fault.{Fault}
 use Rattle.calls.specs.declared.call.Call.{Call}
 use Rattle.calls.specs.declared.call.Call.TheVariants.{Read, Advance, Flush}
 use Rattle.port.specs.declared.Port.{Ghosts}
-use Rattle.cache_tables.specs.Rules.{cleared}
+use Rattle.directory.specs.Dirs.{emptied}
+use Rattle.cache_tables.specs.Rules.{idle, cleared}
 use Rattle.cache.specs.declared.cache.Cache.{Cache}
-use Rattle.cache.specs.Doing.{tables_of, cache_ghosts}
+use Rattle.cache.specs.Doing.{shows_below, tables_of, cache_ghosts}
 use Rattle.book.specs.declared.answer.Mode.{Mode}
 use Rattle.book.specs.declared.answer.Answer.{Answer}
 use Rattle.book.specs.Promise.{NeverAnOldDigit}
 use Rattle.directory_walk.specs.declared.Walk.{Walk}
 use Rattle.directory_walk.specs.Walks.{Walked}
+use Rattle.directory_walk.specs.Finds.{all_filled, TheFilledLinesStand}
 
 -- A read begins the fill of the word's line, and each advance brings one of the seven other words.
 abbrev pub fill : ℕ → List Call
@@ -28,4 +30,7 @@ pub record DirectoryTested {P : Type 0} (G : Ghosts P) (below : P) (words sets :
   pub stands_on : fresh.below ≡ below
   pub no_line : tables_of fresh ≡ cleared
   pub promise : NeverAnOldDigit (cache_ghosts G) fresh (start_up_calls words) rs m left
+  -- no fill is under way at the end, and the directory is that of one fill after another
+  pub directory : tables_of left ≡ idle (all_filled (shows_below fresh) emptied words)
+  pub finds : TheFilledLinesStand (shows_below fresh) words (tables_of left).dir
   pub walked : Walked left sets walk

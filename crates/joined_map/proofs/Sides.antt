@@ -1,71 +1,89 @@
 -- Each side of a map gets its own.
-use Rattle.std.proofs.Common.{◌≡◌, ℕ, ◌-◌, Bool, true, false, cond, not, List, [], ◌∷◌, Ok, Err, Result, refl}
+use Rattle.std.proofs.Common.{◌≡◌, ℕ, ◌+◌, ◌-◌, ◌≤◌, Bool, true, false, cond, not, List, [], ◌∷◌, ◌++◌, Ok, Err, Result, refl, ◌∙◌, ap₂, arith}
 use Rattle.std.specs.Prelude.{MatchBool, nat_lt}
+use Rattle.std.proofs.lemmas.List.Concat.{flat_map-append}
 use Rattle.fault.specs.declared.Fault.{Fault}
 use Rattle.port.specs.declared.Port.{Ghosts}
 use Rattle.port.specs.declared.Store.{Store}
 use Rattle.port.specs.Memory.{State}
-use Rattle.port.specs.Steps.{Step, reads, writes, advances, outsides, snoops, flushes, done, then, Drains, empty, more, Through, asked, Gets}
-use Rattle.port.proofs.Chains.{gets_none, gets_one, gets_then}
+use Rattle.port.specs.Steps.{Step, reads, writes, advances, outsides, snoops, flushes, done, then, Drains, empty, more, Through, sort, asked, word_read, advances_as}
+use Rattle.port.proofs.Chains.{advances-append, gets_one, gets_then}
 use Rattle.joined_map.specs.declared.JoinedMap.{JoinedMap}
 use Rattle.joined_map.specs.Joint.{lowered}
 use Rattle.joined_map.specs.Steps.{ReadHigh, split, end, MapDoes}
-use Rattle.joined_map.specs.Runs.{low_by, high_by, EachSideGetsItsOwn}
+use Rattle.joined_map.specs.Runs.{low_by, high_by, low_words, high_words, SideGets, EachSideGetsItsOwn}
 
 -- ---- one side
 
 module _ {P : Type 0} {does : P → Step → P → Type 0} where
-  drains_get : {state : P → State} {p q : P} → Drains state does p q → Gets does asked [] p q
-  drains_get (empty none) = gets_none refl
-  drains_get (more waits h rest) = gets_then (gets_one advances h) (drains_get rest)
+  nothing : {p q : P} → q ≡ p → SideGets does [] [] 0 p q
+  nothing e = rw e (record { gets = record { calls = []; chain = done; counted = refl }; read = refl; advanced = omega arith })
 
-  through_gets : {state : P → State} {p q : P} (w : Store) → Through state does w (Ok tt) p q → Gets does asked (writes w (Ok tt) ∷ []) p q
-  through_gets w x = gets_then (gets_one (writes w (Ok tt)) x.wrote) (drains_get x.drains)
+  one : {p q : P} (d : Step) → does p d q → SideGets does (asked d ++ []) (word_read d ++ []) (advances_as (sort d).kind) p q
+  one d h = record { gets = gets_one d h; read = refl; advanced = omega arith }
+
+  both : {ds es : List Step} {ws vs : List ℕ} {n k : ℕ} {p q r : P} → SideGets does ds ws n p q → SideGets does es vs k q r → SideGets does (ds ++ es) (ws ++ vs) (n + k) p r
+  both x y = record {
+    gets = gets_then x.gets y.gets;
+    read = flat_map-append word_read x.gets.calls y.gets.calls ∙ ap₂ (λ (xs ys : List ℕ). xs ++ ys) x.read y.read;
+    advanced = let sum = advances-append x.gets.calls y.gets.calls in let a = x.advanced in let b = y.advanced in omega (arith, sum, a, b);
+  }
+
+  fewer : {ds : List Step} {ws : List ℕ} {n k : ℕ} {p q : P} → k ≤ n → SideGets does ds ws n p q → SideGets does ds ws k p q
+  fewer h x = record { gets = x.gets; read = x.read; advanced = let a = x.advanced in omega (arith, h, a) }
+
+  drains_get : {state : P → State} {p q : P} → Drains state does p q → SideGets does [] [] 0 p q
+  drains_get (empty none) = nothing refl
+  drains_get (more waits h rest) = fewer (omega arith) (both (one advances h) (drains_get rest))
+
+  through_gets : {state : P → State} {p q : P} (w : Store) → Through state does w (Ok tt) p q → SideGets does (writes w (Ok tt) ∷ []) [] 0 p q
+  through_gets w x = fewer (omega arith) (both (one (writes w (Ok tt)) x.wrote) (drains_get x.drains))
 
 -- ---- both sides
 
 module _ {L H : Type 0} {l : Ghosts L} {h : Ghosts H} (b c : JoinedMap L H l h) where
-  abbrev Both : List Step → List Step → Type 0
-  Both ds es = Gets l.does asked ds b.low c.low × Gets h.does asked es b.high c.high
+  abbrev Both : List Step → List Step → List ℕ → List ℕ → ℕ → Type 0
+  Both ds es ws vs n = SideGets l.does ds ws n b.low c.low × SideGets h.does es vs n b.high c.high
 
-  untouched : c ≡ b → Both [] []
-  untouched e = (gets_none (cc), gets_none (cc))
+  untouched : c ≡ b → Both [] [] [] [] 0
+  untouched e = (nothing (cc), nothing (cc))
 
   -- a call for the low side where a test says so, and for the high side where not
-  by_test : (t : Bool) (d e : Step) (A B : Type 0) → (A → Both (d ∷ []) []) → (B → Both [] (e ∷ [])) → MatchBool t A B →
-      Both (cond t (d ∷ []) []) (cond (not t) (e ∷ []) [])
+  by_test : (t : Bool) (d e : Step) (A B : Type 0) → (A → Both (d ∷ []) [] [] [] 0) → (B → Both [] (e ∷ []) [] [] 0) → MatchBool t A B →
+      Both (cond t (d ∷ []) []) (cond (not t) (e ∷ []) []) [] [] 0
   by_test true d e A B f g x = f x
   by_test false d e A B f g x = g x
 
   read_gets : (w : ℕ) (r : Result ℕ Fault) (t u : Bool) →
-      MatchBool t (MatchBool u (l.does b.low (reads w r) c.low × (c.high ≡ b.high)) ((c.low ≡ b.low) × ReadHigh h.does (split b) b.high w r c.high)) (c ≡ b) → Both [] []
-  read_gets w r true true x = (gets_one (reads w r) x.0, gets_none x.1)
-  read_gets w r true false x = (gets_none x.0, gets_one (reads (w - split b) x.1.answer) x.1.reads)
+      MatchBool t (MatchBool u (l.does b.low (reads w r) c.low × (c.high ≡ b.high)) ((c.low ≡ b.low) × ReadHigh h.does (split b) b.high w r c.high)) (c ≡ b) →
+      Both [] [] (cond t (cond u (w ∷ []) []) [] ++ []) (cond t (cond u [] ((w - split b) ∷ [])) [] ++ []) 0
+  read_gets w r true true x = (one (reads w r) x.0, nothing x.1)
+  read_gets w r true false x = (nothing x.0, one (reads (w - split b) x.1.answer) x.1.reads)
   read_gets w r false u x = untouched x
 
-  call_gets : (d : Step) → MapDoes b d c → Both (low_by (split b) d) (high_by (split b) d)
+  call_gets : (d : Step) → MapDoes b d c → Both (low_by b d) (high_by b d) (low_words b d) (high_words b d) (advances_as (sort d).kind)
   call_gets (reads w r) x = read_gets w r (nat_lt w (end b)) (nat_lt w (split b)) x
   call_gets (writes w (Ok _)) x =
       by_test (nat_lt w.word (split b)) (writes w (Ok tt)) (writes (lowered (split b) w) (Ok tt)) _ _
-      (λ y. (through_gets w y.0, gets_none y.1))
-      (λ y. (gets_none y.0, through_gets (lowered (split b) w) y.1)) x
+      (λ y. (through_gets w y.0, nothing y.1))
+      (λ y. (nothing y.0, through_gets (lowered (split b) w) y.1)) x
   call_gets (writes w (Err _)) x = untouched x
-  call_gets advances x = (gets_one advances x.0, gets_one advances x.1)
+  call_gets advances x = (one advances x.0, one advances x.1)
   call_gets (outsides w (Ok _)) x =
       by_test (nat_lt w.word (split b)) (outsides w (Ok tt)) (outsides (lowered (split b) w) (Ok tt)) _ _
-      (λ y. (gets_one (outsides w (Ok tt)) y.0, gets_none y.1))
-      (λ y. (gets_none y.0, gets_one (outsides (lowered (split b) w) (Ok tt)) y.1)) x
+      (λ y. (one (outsides w (Ok tt)) y.0, nothing y.1))
+      (λ y. (nothing y.0, one (outsides (lowered (split b) w) (Ok tt)) y.1)) x
   call_gets (outsides w (Err _)) x = untouched x
   call_gets (snoops w (Ok _)) x =
       by_test (nat_lt w (split b)) (snoops w (Ok tt)) (snoops (w - split b) (Ok tt)) _ _
-      (λ y. (gets_one (snoops w (Ok tt)) y.0, gets_none y.1))
-      (λ y. (gets_none y.0, gets_one (snoops (w - split b) (Ok tt)) y.1)) x
+      (λ y. (one (snoops w (Ok tt)) y.0, nothing y.1))
+      (λ y. (nothing y.0, one (snoops (w - split b) (Ok tt)) y.1)) x
   call_gets (snoops w (Err _)) x = untouched x
-  call_gets flushes x = (gets_one flushes x.0, gets_one flushes x.1)
+  call_gets flushes x = (one flushes x.0, one flushes x.1)
 
 pub each_side_gets_its_own : {L H : Type 0} {l : Ghosts L} {h : Ghosts H} → EachSideGetsItsOwn l h
 each_side_gets_its_own b c [] done = untouched b b refl
 each_side_gets_its_own b c (d ∷ ds) (then {q = m} call rest) =
-    let one = call_gets b m d call in
+    let first = call_gets b m d call in
     let others = each_side_gets_its_own m c ds rest in
-    (gets_then one.0 others.0, gets_then one.1 others.1)
+    (both first.0 others.0, both first.1 others.1)

@@ -1,8 +1,10 @@
--- The laws of settling that every stage rests on.
-use Rattle.std.specs.Prelude.{◌≡◌, List, []}
+-- The laws that every stage rests on.
+use Rattle.std.specs.Prelude.{◌≡◌, ℕ, ◌+◌, ◌*◌, ◌<◌, ◌≤◌, true, false, ◌⊎◌, List, [], Ok, Err}
+use Rattle.fault.specs.declared.Refusal.TheVariants.{PastEnd, BadLanes, Unreadable}
 use Rattle.port.specs.declared.Store.{Store}
+use Rattle.port.specs.Lanes.{merged}
 use Rattle.port.specs.Memory.{State, seen, posted, drained}
-use Rattle.port.specs.Meaning.{Settles}
+use Rattle.port.specs.Meaning.{read_answer, settled_answer, write_answer, Settles}
 
 pub record SettlingIsLawful : Type 0 where
   -- settling and settling again is settling
@@ -13,3 +15,20 @@ pub record SettlingIsLawful : Type 0 where
   pub commutes : (s t : State) (ws : List Store) → Settles s t → Settles (posted ws s) (posted ws t)
   -- once nothing waits, settled memory is what was seen
   pub ends : (s t : State) → Settles s t → t.waiting ≡ [] → t ≡ drained s
+
+-- A write is refused past the end whatever its lanes, else for lanes that are none, each on the floor of the port that was called. A read is
+-- refused past the end, else on floor 0 for a word that cannot be read.
+pub record RefusedInOrder : Type 0 where
+  pub past : (s : State) (w : Store) → s.facts.words ≤ w.word → write_answer s w ≡ Err (record { refusal = PastEnd; place = w.word; floor = s.facts.floor })
+  pub lanes : (s : State) (w : Store) → w.word < s.facts.words → (w.lanes ≡ 0) ⊎ (3 < w.lanes) → write_answer s w ≡ Err (record { refusal = BadLanes; place = w.word; floor = s.facts.floor })
+  pub taken : (s : State) (w : Store) → w.word < s.facts.words → 1 ≤ w.lanes → w.lanes ≤ 3 → write_answer s w ≡ Ok tt
+  pub read_past : (s : State) (a : ℕ) → s.facts.words ≤ a → read_answer s a ≡ Err (record { refusal = PastEnd; place = a; floor = s.facts.floor })
+  pub unreadable : (s : State) (a : ℕ) → a < s.facts.words → (seen s).readable a ≡ false → read_answer s a ≡ Err (record { refusal = Unreadable; place = a; floor = 0 })
+  pub read : (s : State) (a : ℕ) → a < s.facts.words → (seen s).readable a ≡ true → read_answer s a ≡ Ok ((seen s).word a)
+  pub settled : (s : State) (a : ℕ) → a < s.facts.words → s.settled.readable a ≡ true → settled_answer s a ≡ Ok (s.settled.word a)
+
+-- Of a word's two bytes, lanes 1 replace the low one, 2 the high one, and 3 both.
+pub record LanesReplaceBytes : Type 0 where
+  pub low : (h l g k : ℕ) → l < 256 → k < 256 → merged 1 (h * 256 + l) (g * 256 + k) ≡ h * 256 + k
+  pub high : (h l g k : ℕ) → l < 256 → k < 256 → merged 2 (h * 256 + l) (g * 256 + k) ≡ g * 256 + l
+  pub both : (h l g k : ℕ) → l < 256 → k < 256 → merged 3 (h * 256 + l) (g * 256 + k) ≡ g * 256 + k

@@ -1,5 +1,5 @@
 -- Calls with their answers, and what several of them do one after another.
-use Rattle.std.specs.Prelude.{◌≡◌, ℕ, ◌<◌, Bool, true, false, cond, ◌&&◌, List, [], ◌∷◌, length, flat_map, Result, is_ok}
+use Rattle.std.specs.Prelude.{◌≡◌, ℕ, ◌+◌, ◌<◌, Bool, true, false, cond, not, ◌&&◌, List, [], ◌∷◌, length, flat_map, Result, is_ok}
 use Rattle.fault.specs.declared.Fault.{Fault}
 use Rattle.port.specs.declared.Store.{Store}
 use Rattle.port.specs.Memory.{State}
@@ -34,8 +34,9 @@ pub record Through {P : Type 0} (state : P → State) (does : P → Step → P �
 
 -- What a call is to a stage: a read, a processor's write, an advance, or news that every stage has to hear.
 pub data Kind : Type 0 where
-  read advance news : Kind
+  read : ℕ → Kind
   write : Store → Kind
+  advance news : Kind
 
 -- A call in one line: what it is, and whether it was accepted.
 pub record Sort : Type 0 where
@@ -46,7 +47,7 @@ abbrev pub sort_by : Kind → Bool → Sort
 sort_by kind accepted = record { kind = kind; accepted = accepted }
 
 abbrev pub sort : Step → Sort
-sort (reads w r) = sort_by read (is_ok r)
+sort (reads w r) = sort_by (read w) (is_ok r)
 sort (writes w r) = sort_by (write w) (is_ok r)
 sort advances = sort_by advance true
 sort (outsides w r) = sort_by news (is_ok r)
@@ -55,18 +56,18 @@ sort flushes = sort_by news true
 
 abbrev pub is_news : Kind → Bool
 is_news news = true
+is_news (read w) = false
 is_news (write w) = false
-is_news read = false
 is_news advance = false
 
 abbrev pub is_no_read : Kind → Bool
-is_no_read read = false
+is_no_read (read w) = false
 is_no_read (write w) = true
 is_no_read advance = true
 is_no_read news = true
 
 abbrev pub is_asked : Kind → Bool
-is_asked read = false
+is_asked (read w) = false
 is_asked (write w) = true
 is_asked advance = false
 is_asked news = true
@@ -74,12 +75,33 @@ is_asked news = true
 -- The processor's write, if it was accepted.
 abbrev pub written_as : Kind → Bool → List Store
 written_as (write w) accepted = cond accepted (w ∷ []) []
-written_as read accepted = []
+written_as (read w) accepted = []
 written_as advance accepted = []
 written_as news accepted = []
 
 abbrev pub written : Step → List Store
 written d = written_as (sort d).kind (sort d).accepted
+
+-- The word that is read.
+abbrev pub word_read_as : Kind → List ℕ
+word_read_as (read w) = w ∷ []
+word_read_as (write w) = []
+word_read_as advance = []
+word_read_as news = []
+
+abbrev pub word_read : Step → List ℕ
+word_read d = word_read_as (sort d).kind
+
+-- How often a port is told to advance.
+abbrev pub advances_as : Kind → ℕ
+advances_as (read w) = 0
+advances_as (write w) = 0
+advances_as advance = 1
+advances_as news = 0
+
+abbrev pub advances_in : List Step → ℕ
+advances_in [] = 0
+advances_in (d ∷ ds) = advances_as (sort d).kind + advances_in ds
 
 -- What was accepted, but for reads.
 abbrev pub accepted : Step → List Step
@@ -88,6 +110,10 @@ accepted d = cond (is_no_read (sort d).kind && (sort d).accepted) (d ∷ []) []
 -- What was accepted and every stage has to hear of: outside writes, snoops and flushes.
 abbrev pub announced : Step → List Step
 announced d = cond (is_news (sort d).kind && (sort d).accepted) (d ∷ []) []
+
+-- That, and every read.
+abbrev pub read_or_announced : Step → List Step
+read_or_announced d = cond (not (is_no_read (sort d).kind)) (d ∷ []) (announced d)
 
 -- All but reads and advances, whatever was answered.
 abbrev pub asked : Step → List Step

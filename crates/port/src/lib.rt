@@ -7,7 +7,7 @@ ghost use Rattle.port.specs.Memory.{State, WholeLines, seen, posted, drained, ou
 ghost use Rattle.port.specs.Meaning.{within, writable, read_answer, settled_answer, write_answer, snoop_answer, marks_answer, waiting_answer, Settles, Advances, ByAnswer, Kept};
 ghost use Rattle.port.specs.Checks.{InRange, Writable};
 ghost use Rattle.port.specs.Steps.{Step, reads, writes, advances, outsides, snoops, flushes, Drains, Through};
-ghost use Rattle.port.specs.Laws.{SettlingIsLawful};
+ghost use Rattle.port.specs.Laws.{SettlingIsLawful, RefusedInOrder, LanesReplaceBytes};
 
 use fault::{Fault, Refusal};
 
@@ -29,8 +29,10 @@ impl Store {
     }
 
     /// The old word once the lanes of this write are replaced in it.
+    #[tactic(auto, using(crate::proofs::Checking::lanes_replace_bytes))]
     pub fn over(self, old: u16) -> u16
-        ensures { result ≡ merged self.lanes old self.value }
+        ensures value { result ≡ merged self.lanes old self.value }
+        ensures law { LanesReplaceBytes }
     {
         let new = self.value;
         match self.lanes {
@@ -58,8 +60,10 @@ pub fn check_range(place: u32, end: u32, floor: u8) -> Result<(), Fault>
 }
 
 /// Refuses a write past the end, and then one of no known lanes.
+#[tactic(auto, using(crate::proofs::Checking::refused_in_order))]
 pub fn check_write(write: Store, end: u32, floor: u8) -> Result<(), Fault>
-    ensures { result ≡ writable write.word write.lanes end floor }
+    ensures value { result ≡ writable write.word write.lanes end floor }
+    ensures law { RefusedInOrder }
 {
     check_range(write.word, end, floor)?;
     if 1 <= write.lanes && write.lanes <= 3 {

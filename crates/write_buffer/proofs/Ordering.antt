@@ -1,107 +1,170 @@
 -- Nothing is lost between a buffer and the port below.
-use Rattle.std.proofs.Common.{◌≡◌, List, [], ◌∷◌, ◌++◌, Ok, Err, sym, refl, ap, ◌∙◌, subst, append_assoc, append-nil}
+use Rattle.std.proofs.Common.{◌≡◌, ℕ, ◌+◌, ◌≤◌, min, Bool, true, false, cond, ltb, eqb, List, [], ◌∷◌, ◌++◌, length, Ok, Err, Result, sym, refl, ap, ◌∙◌, subst, ap₂, append_assoc, append-nil, arith, length-append}
+use Rattle.std.proofs.lemmas.Bool.Decides.{nat_tests}
+use Rattle.std.proofs.lemmas.Bool.{cond-false}
+use Rattle.fault.specs.declared.Fault.{Fault}
+use Rattle.std.specs.Prelude.{flat_map}
+use Rattle.std.proofs.lemmas.List.Concat.{flat_map-append}
 use Rattle.std.specs.Option.{option_to_list as left}
 use Rattle.port.specs.declared.Port.{Ghosts}
 use Rattle.port.specs.declared.Store.{Store}
-use Rattle.port.specs.Meaning.{ByAnswer}
-use Rattle.port.specs.Steps.{Step, reads, writes, advances, outsides, snoops, flushes, Chain, done, then, written, announced}
-use Rattle.port.proofs.Checking.{Answer}
-use Rattle.port.proofs.Chains.{chain_append, gets_then}
-use Rattle.std.specs.Prelude.{flat_map}
-use Rattle.std.proofs.lemmas.List.Concat.{flat_map-append}
+use Rattle.port.specs.Meaning.{past_end, ByAnswer}
+use Rattle.port.specs.Steps.{Step, reads, writes, advances, outsides, snoops, flushes, Chain, done, then, sort, written, read_or_announced, advances_as, advances_in}
+use Rattle.port.proofs.Chains.{chain_append, advances-append, gets_then}
 use Rattle.write_buffer.specs.declared.buffer.WriteBuffer.{WriteBuffer}
 use Rattle.write_buffer.specs.Queues.{queued, leaving}
 use Rattle.write_buffer.specs.Buffering.{sends, PassesOn, Joins, SendsAndReads, SendsOn, settled, waited, AdvancesOne, below, oldest, idle, Does}
-use Rattle.write_buffer.specs.Runs.{Below, NothingIsLost}
-use Rattle.write_buffer.proofs.Queueing.{oldest_leaves_first}
+use Rattle.write_buffer.specs.Runs.{Due, due, and_then, due_by, due_along, Below, NothingIsLost}
+use Rattle.write_buffer.proofs.Queueing.{oldest_leaves_first, at_most_four}
 
 written_sends : (ws : List Store) → flat_map written (sends ws) ≡ ws
 written_sends [] = refl
 written_sends (w ∷ ws) = ap (λ l. w ∷ l) (written_sends ws)
 
-announced_sends : (ws : List Store) → flat_map announced (sends ws) ≡ []
-announced_sends [] = refl
-announced_sends (w ∷ ws) = announced_sends ws
+unheard_sends : (ws : List Store) → flat_map read_or_announced (sends ws) ≡ []
+unheard_sends [] = refl
+unheard_sends (w ∷ ws) = unheard_sends ws
 
 -- the lines of two runs, one after the other
 lines_then : (xs ys qb qm qc ws vs : List Store) → xs ++ qm ≡ qb ++ ws → ys ++ qc ≡ qm ++ vs → (xs ++ ys) ++ qc ≡ qb ++ (ws ++ vs)
 lines_then xs ys qb qm qc ws vs a b =
     append_assoc xs ys qc ∙ ap (λ l. xs ++ l) b ∙ sym (append_assoc xs qm vs) ∙ ap (λ l. l ++ vs) a ∙ append_assoc qb ws vs
 
-below_then : {P : Type 0} {G : Ghosts P} (ws vs : List Store) (hs gs : List Step) (b m c : WriteBuffer P G) →
-    Below ws hs b m → Below vs gs m c → Below (ws ++ vs) (hs ++ gs) b c
-below_then ws vs hs gs b m c x y = record {
-  gets = gets_then x.gets y.gets;
-  order = ap (λ l. l ++ queued c.queue) (flat_map-append written x.gets.calls y.gets.calls) ∙
-      lines_then (flat_map written x.gets.calls) (flat_map written y.gets.calls) (queued b.queue) (queued m.queue) (queued c.queue) ws vs x.order y.order;
-}
+-- how many leave at a write that joins
+left_many : (ws : List Store) → length ws ≤ 4 → length (left (leaving ws)) ≡ cond (eqb (length ws) 4) 1 0
+left_many [] h = refl
+left_many (a ∷ []) h = refl
+left_many (a ∷ b ∷ []) h = refl
+left_many (a ∷ b ∷ c ∷ []) h = refl
+left_many (a ∷ b ∷ c ∷ d ∷ []) h = refl
+left_many (a ∷ b ∷ c ∷ d ∷ e ∷ ws) h = absurd (omega arith)
 
-none_below : {P : Type 0} {G : Ghosts P} (b : WriteBuffer P G) → Below [] [] b b
-none_below b = record { gets = record { calls = []; chain = done; counted = refl }; order = sym (append-nil (queued b.queue)) }
+advances_sends : (ws : List Store) → advances_in (sends ws) ≡ 0
+advances_sends [] = refl
+advances_sends (w ∷ ws) = let more = advances_sends ws in omega (arith, more)
 
-unchanged : {P : Type 0} {G : Ghosts P} (b c : WriteBuffer P G) → c ≡ b → Below [] [] b c
-unchanged {P} {G} b c e = let F : WriteBuffer P G → Type 0 = λ x. Below [] [] b x in subst F (sym e) (none_below b)
-
--- a call passed on, with what it hands over
-passed_below : {P : Type 0} {G : Ghosts P} (d : Step) (hs : List Step) (b c : WriteBuffer P G) → written d ≡ [] → announced d ≡ hs →
-    PassesOn d b c → Below [] hs b c
-passed_below d hs b c none e a = record {
-  gets = record { calls = d ∷ []; chain = a.below; counted = append-nil (announced d) ∙ e };
-  order = ap (λ l. (l ++ []) ++ queued c.queue) none ∙ ap queued a.queue ∙ sym (append-nil (queued b.queue));
-}
-
-read_below : {P : Type 0} {G : Ghosts P} (d : Step) (b c : WriteBuffer P G) → written d ≡ [] → announced d ≡ [] →
-    queued c.queue ≡ [] → Chain G.does b.below (sends (queued b.queue) ++ (d ∷ [])) c.below → Below [] [] b c
-read_below d b c none quiet empty chain =
-    let ws = queued b.queue in
+-- one call, and then a run
+below_then : {P : Type 0} {G : Ghosts P} (t u : Due) (d : Step) (ds : List Step) (b m c : WriteBuffer P G) →
+    Below t (d ∷ []) b m → Below u ds m c → Below (and_then t u) (d ∷ ds) b c
+below_then t u d ds b m c x y =
+    let xs = x.gets.calls in
+    let ys = y.gets.calls in
+    let line : flat_map written (xs ++ ys) ≡ flat_map written xs ++ flat_map written ys = flat_map-append written xs ys in
     record {
-      gets = record {
-        calls = sends ws ++ (d ∷ []);
-        chain = chain;
-        counted = flat_map-append announced (sends ws) (d ∷ []) ∙ ap (λ l. l ++ (announced d ++ [])) (announced_sends ws) ∙ ap (λ (l : List Step). l ++ []) quiet;
-      };
-      order = ap (λ l. l ++ queued c.queue) (flat_map-append written (sends ws) (d ∷ []) ∙ ap (λ l. l ++ (written d ++ [])) (written_sends ws)) ∙
-          ap (λ l. (ws ++ (l ++ [])) ++ queued c.queue) none ∙ ap (λ l. (ws ++ []) ++ l) empty ∙ append-nil (ws ++ []);
+      gets = gets_then x.gets y.gets;
+      order = ap (λ l. l ++ queued c.queue) line ∙
+          lines_then (flat_map written xs) (flat_map written ys) (queued b.queue) (queued m.queue) (queued c.queue) (written d ++ []) (flat_map written ds) x.order y.order ∙
+          ap (λ l. queued b.queue ++ (l ++ flat_map written ds)) (append-nil (written d));
+      sent = ap length line ∙ length-append (flat_map written xs) (flat_map written ys) ∙ ap₂ (λ (i j : ℕ). i + j) x.sent y.sent;
+      advanced = let sum = advances-append xs ys in omega (arith, sum, x.advanced, y.advanced);
     }
 
-write_below : {P : Type 0} {G : Ghosts P} (w : Store) (b c : WriteBuffer P G) → Joins w b c → Below (w ∷ []) [] b c
-write_below w b c a =
-    let ws = queued b.queue in
-    let gone = left (leaving ws) in
-    record {
-      gets = record { calls = sends gone; chain = a.below; counted = announced_sends gone };
-      order = ap (λ l. l ++ queued c.queue) (written_sends gone) ∙ ap (λ l. gone ++ l) a.queue ∙ oldest_leaves_first.whole w ws;
-    }
+none_below : {P : Type 0} {G : Ghosts P} (b : WriteBuffer P G) → Below (due 0 [] 0) [] b b
+none_below b = record { gets = record { calls = []; chain = done; counted = refl }; order = sym (append-nil (queued b.queue)); sent = refl; advanced = omega arith }
 
-sent_below : {P : Type 0} {G : Ghosts P} (w : Store) (b c : WriteBuffer P G) → queued b.queue ≡ w ∷ queued c.queue →
-    SendsOn G.state G.does w b.below c.below → Below [] [] b c
-sent_below w b c line (settled chain none) =
-    record { gets = record { calls = writes w (Ok tt) ∷ []; chain = chain; counted = refl }; order = sym line ∙ sym (append-nil (queued b.queue)) }
-sent_below w b c line (waited middle sent waits chain) =
-    record { gets = record { calls = writes w (Ok tt) ∷ advances ∷ []; chain = chain_append sent chain; counted = refl }; order = sym line ∙ sym (append-nil (queued b.queue)) }
+module _ {P : Type 0} {G : Ghosts P} (b c : WriteBuffer P G) where
+  unchanged : (d : Step) → written d ≡ [] → c ≡ b → Below (due 0 [] 0) (d ∷ []) b c
+  unchanged d none e = record {
+    gets = record {
+      calls = [];
+      chain = let F : P → Type 0 = λ x. Chain G.does b.below [] x in subst F (sym (ap (λ (x : WriteBuffer P G). x.below) e)) done;
+      counted = refl;
+    };
+    order = ap (λ (x : WriteBuffer P G). queued x.queue) e ∙ sym (append-nil (queued b.queue)) ∙ ap (λ (l : List Store). queued b.queue ++ (l ++ [])) (sym none);
+    sent = refl;
+    advanced = omega arith;
+  }
 
-advance_below : {P : Type 0} {G : Ghosts P} (b c : WriteBuffer P G) → AdvancesOne b c → Below [] [] b c
-advance_below b c (below waits a) = passed_below advances [] b c refl refl a
-advance_below b c (oldest w none line a) = sent_below w b c line a
-advance_below b c (idle none empty same) = unchanged b c same
+  -- a call passed on, with what it hands over
+  passed_below : (d : Step) (hs : List Step) → written d ≡ [] → read_or_announced d ≡ hs → PassesOn d b c → Below (due 0 hs (advances_as (sort d).kind)) (d ∷ []) b c
+  passed_below d hs none heard a = record {
+    gets = record { calls = d ∷ []; chain = a.below; counted = append-nil (read_or_announced d) ∙ heard };
+    order = ap (λ l. (l ++ []) ++ queued c.queue) none ∙ ap queued a.queue ∙ sym (append-nil (queued b.queue)) ∙ ap (λ (l : List Store). queued b.queue ++ (l ++ [])) (sym none);
+    sent = ap (λ (l : List Store). length (l ++ [])) none;
+    advanced = omega arith;
+  }
 
-either : {R : Type 0} (A B : Type 0) (r : Answer) → (A → R) → (B → R) → ByAnswer r A B → R
-either A B (Ok _) f g a = f a
-either A B (Err _) f g a = g a
+  read_below : (w : ℕ) (r : Result ℕ Fault) → SendsAndReads w r b c → Below (due (length (queued b.queue)) (reads w r ∷ []) 0) (reads w r ∷ []) b c
+  read_below w r a =
+      let d = reads w r in
+      let ws = queued b.queue in
+      let sum = advances-append (sends ws) (d ∷ []) in
+      let none = advances_sends ws in
+      let line : flat_map written (sends ws ++ (d ∷ [])) ≡ ws = flat_map-append written (sends ws) (d ∷ []) ∙ append-nil (flat_map written (sends ws)) ∙ written_sends ws in
+      record {
+        gets = record {
+          calls = sends ws ++ (d ∷ []);
+          chain = a.below;
+          counted = flat_map-append read_or_announced (sends ws) (d ∷ []) ∙ ap (λ l. l ++ (d ∷ [])) (unheard_sends ws);
+        };
+        order = ap₂ (λ (xs ys : List Store). xs ++ ys) line a.queue;
+        sent = ap length line;
+        advanced = omega (arith, sum, none);
+      }
 
-step_below : {P : Type 0} {G : Ghosts P} (d : Step) (b c : WriteBuffer P G) → Does b d c → Below (written d) (announced d) b c
-step_below (reads w r) b c a =
-    either (SendsAndReads w r b c) (c ≡ b) _ (λ h. read_below (reads w r) b c refl refl h.queue h.below) (unchanged b c) a
-step_below (writes w (Ok _)) b c a = write_below w b c a
-step_below (writes w (Err _)) b c a = unchanged b c a
-step_below advances b c a = advance_below b c a
-step_below (outsides w (Ok u)) b c a = passed_below (outsides w (Ok u)) (outsides w (Ok tt) ∷ []) b c refl refl a
-step_below (outsides w (Err _)) b c a = unchanged b c a
-step_below (snoops w (Ok u)) b c a = passed_below (snoops w (Ok u)) (snoops w (Ok tt) ∷ []) b c refl refl a
-step_below (snoops w (Err _)) b c a = unchanged b c a
-step_below flushes b c a = passed_below flushes (flushes ∷ []) b c refl refl a
+  write_below : (w : Store) → Joins w b c → Below (due_by b (writes w (Ok tt))) (writes w (Ok tt) ∷ []) b c
+  write_below w a =
+      let ws = queued b.queue in
+      let gone = left (leaving ws) in
+      let none = advances_sends gone in
+      record {
+        gets = record { calls = sends gone; chain = a.below; counted = unheard_sends gone };
+        order = ap (λ l. l ++ queued c.queue) (written_sends gone) ∙ ap (λ l. gone ++ l) a.queue ∙ oldest_leaves_first.whole w ws;
+        sent = ap length (written_sends gone) ∙ left_many ws (at_most_four b.queue);
+        advanced = omega (arith, none);
+      }
+
+  sent_below : (w : Store) → queued b.queue ≡ w ∷ queued c.queue → SendsOn G.state G.does w b.below c.below → Below (due 1 [] 1) (advances ∷ []) b c
+  sent_below w line (settled chain none) = record {
+    gets = record { calls = writes w (Ok tt) ∷ []; chain = chain; counted = refl };
+    order = sym line ∙ sym (append-nil (queued b.queue));
+    sent = refl;
+    advanced = omega arith;
+  }
+  sent_below w line (waited middle sent waits chain) = record {
+    gets = record { calls = writes w (Ok tt) ∷ advances ∷ []; chain = chain_append sent chain; counted = refl };
+    order = sym line ∙ sym (append-nil (queued b.queue));
+    sent = refl;
+    advanced = omega arith;
+  }
+
+  -- what an advance owes, by the two lines
+  abbrev owed : List Store → List Store → Due
+  owed xs ys = cond (eqb (length xs) 0) (due (min 1 (length ys)) [] (min 1 (length ys))) (due 0 [] 1)
+
+  advance_below : AdvancesOne b c → Below (owed (G.state b.below).waiting (queued b.queue)) (advances ∷ []) b c
+  advance_below (below waits a) =
+      let e : owed (G.state b.below).waiting (queued b.queue) ≡ due 0 [] 1 = cond-false (eqb (length (G.state b.below).waiting) 0) _ _ (grind (arith, nat_tests)) in
+      let F : Due → Type 0 = λ t. Below t (advances ∷ []) b c in
+      subst F (sym e) (passed_below advances [] refl refl a)
+  advance_below (oldest w none line a) =
+      let many : min 1 (length (w ∷ queued c.queue)) ≡ 1 = omega arith in
+      let F : Due → Type 0 = λ t. Below t (advances ∷ []) b c in
+      subst F (sym (ap₂ owed none line ∙ ap (λ (n : ℕ). due n [] n) many)) (sent_below w line a)
+  advance_below (idle none empty same) =
+      let F : Due → Type 0 = λ t. Below t (advances ∷ []) b c in
+      subst F (sym (ap₂ owed none empty)) (unchanged advances refl same)
+
+  -- by the answer of a range check
+  by_range : (w : ℕ) (r : Result ℕ Fault) (t : Bool) (floor : ℕ) → ByAnswer (cond t (Ok tt) (Err (past_end w floor))) (SendsAndReads w r b c) (c ≡ b) →
+      Below (cond t (due (length (queued b.queue)) (reads w r ∷ []) 0) (due 0 [] 0)) (reads w r ∷ []) b c
+  by_range w r true floor a = read_below w r a
+  by_range w r false floor a = unchanged (reads w r) refl a
+
+  step_below : (d : Step) → Does b d c → Below (due_by b d) (d ∷ []) b c
+  step_below (reads w r) a = by_range w r (ltb w (G.state b.below).facts.words) (G.state b.below).facts.floor a
+  step_below (writes w (Ok _)) a = write_below w a
+  step_below (writes w (Err e)) a = unchanged (writes w (Err e)) refl a
+  step_below advances a = advance_below a
+  step_below (outsides w (Ok u)) a = passed_below (outsides w (Ok u)) _ refl refl a
+  step_below (outsides w (Err e)) a = unchanged (outsides w (Err e)) refl a
+  step_below (snoops w (Ok u)) a = passed_below (snoops w (Ok u)) _ refl refl a
+  step_below (snoops w (Err e)) a = unchanged (snoops w (Err e)) refl a
+  step_below flushes a = passed_below flushes _ refl refl a
+
+run_below : {P : Type 0} {G : Ghosts P} (b c : WriteBuffer P G) (ds : List Step) (run : Chain Does b ds c) → Below (due_along run) ds b c
+run_below b c [] done = none_below b
+run_below b c (d ∷ ds) (then {q = m} h rest) = below_then (due_by b d) (due_along rest) d ds b m c (step_below b m d h) (run_below m c ds rest)
 
 pub nothing_is_lost : {P : Type 0} (G : Ghosts P) → NothingIsLost G
-nothing_is_lost G b c [] done = none_below b
-nothing_is_lost G b c (d ∷ ds) (then {q = m} h rest) =
-    below_then (written d) (flat_map written ds) (announced d) (flat_map announced ds) b m c (step_below d b m h) (nothing_is_lost G m c ds rest)
+nothing_is_lost G = record { one = λ b c d h. step_below b c d h; run = run_below }

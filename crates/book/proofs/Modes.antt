@@ -1,0 +1,331 @@
+-- Modes, answers and counts, as they are read off a run.
+use Rattle.std.proofs.Common.{ap₂, ◌≡◌, ℕ, ◌≤◌, ltb, Bool, true, false, cond, List, [], ◌∷◌, ◌++◌, length, Some, None, Ok, Err, Option, Result, sym, refl, ap, ◌∙◌, subst, arith}
+use Rattle.std.proofs.lemmas.List.{length-map}
+use Rattle.fault.specs.declared.Fault.{Fault}
+use Rattle.fault.specs.declared.Refusal.{Refusal}
+use Rattle.fault.specs.declared.Refusal.TheVariants.{PastEnd, BadLanes, Unreadable, Locked as IsLocked, Granted as IsGranted, NotLocked, NotGranted, UnfitSize, ListLength, ListWord}
+use Rattle.fault.specs.Numbers.{number_of}
+use Rattle.calls.specs.declared.call.Call.{Call}
+use Rattle.calls.specs.declared.call.Call.TheVariants.{Read, Write as Post, Unposted, Advance, Lock, LockedRead, LockedWrite, Unlock, Ask, MasterRead, MasterWrite, Give, Snoop, Flush}
+use Rattle.calls.specs.declared.call.Cargo.{Cargo}
+use Rattle.calls.specs.declared.call.Cargo.TheVariants.{Nothing, Word as OfWord, Store as OfStore}
+use Rattle.calls.specs.Calls.{cargo_of}
+use Rattle.port.specs.Memory.{Memory, State, floor_above, seen}
+use Rattle.port.specs.Meaning.{laned}
+use Rattle.book.specs.declared.answer.Mode.{Mode}
+use Rattle.book.specs.declared.answer.Mode.TheVariants.{Free, Locked, Granted}
+use Rattle.book.specs.declared.answer.Answer.{Answer}
+use Rattle.book.specs.declared.answer.Answer.TheVariants.{Word}
+use Rattle.book.specs.Tables.{place_in, floor_for, fault_of, or_else, in_range, fits, stop, Asks, nothing, drain, advance, flush, read, peek, snoop, write, through, outside, deed, if_taken, goes_to, settles_by, Rule, none}
+use Rattle.book.specs.Book.{Book, refused, waiting_line, step, Admits, Allowed, reading, told_of, says, unless, told, answer}
+use Rattle.book.specs.Runs.{Moment, moment, after, Follows, Ledger, joined, leads_to, moved, mode_by}
+use Rattle.book.specs.Promise.{turned_away, told_at, AnsweredIn, AllIn, settles_at}
+use Rattle.book.proofs.Records.{Tells, joined_is}
+use Rattle.book.proofs.Locks.{Held}
+
+-- REFUSALS
+
+-- a reason that has nothing to do with the mode
+abbrev Mild : Option Refusal → Type 0
+Mild o = (x : Refusal) → o ≡ Some x → number_of x ≤ 3
+
+mild_none : Mild None
+mild_none x e = absurd (cc)
+
+mild_range : (n w : ℕ) → Mild (in_range n w)
+mild_range n w = by_test (ltb w n)
+  where
+    by_test : (t : Bool) → Mild (cond t None (Some PastEnd))
+    by_test true x e = absurd (cc)
+    by_test false x e = let same : PastEnd ≡ x = cc in subst (λ (y : Refusal). number_of y ≤ 3) same (omega arith)
+
+mild_lanes : (t : Bool) → Mild (cond t None (Some BadLanes))
+mild_lanes true x e = absurd (cc)
+mild_lanes false x e = let same : BadLanes ≡ x = cc in subst (λ (y : Refusal). number_of y ≤ 3) same (omega arith)
+
+mild_both : (o r : Option Refusal) → Mild o → Mild r → Mild (or_else o r)
+mild_both None r h k = k
+mild_both (Some x) r h k = h
+
+mild_fits : (n : ℕ) (c : Cargo) → Mild (fits n c)
+mild_fits n Nothing = mild_none
+mild_fits n (OfWord w) = mild_range n w
+mild_fits n (OfStore s) = mild_both (in_range n s.word) (cond (laned s.lanes) None (Some BadLanes)) (mild_range n s.word) (mild_lanes (laned s.lanes))
+
+abbrev MildAnswer : Result Answer Refusal → Type 0
+MildAnswer r = (x : Refusal) → r ≡ Err x → number_of x ≤ 3
+
+mild_says : (s : State) (c : Call) → MildAnswer (says s c)
+mild_says s c = by_asks (deed c).asks
+  where
+    by_word : (m : Memory) (w : ℕ) → MildAnswer (reading m w)
+    by_word m w = by_test (m.readable w)
+      where
+        by_test : (t : Bool) → MildAnswer (cond t (Ok (Word (m.word w))) (Err Unreadable))
+        by_test true x e = absurd (cc)
+        by_test false x e = let same : Unreadable ≡ x = cc in subst (λ (y : Refusal). number_of y ≤ 3) same (omega arith)
+
+    by_asks : (a : Asks) → MildAnswer (told_of s a)
+    by_asks nothing x e = absurd (cc)
+    by_asks drain x e = absurd (cc)
+    by_asks advance x e = absurd (cc)
+    by_asks flush x e = absurd (cc)
+    by_asks (read w) x e = by_word (seen s) w x e
+    by_asks (peek w) x e = by_word s.settled w x e
+    by_asks (snoop w) x e = absurd (cc)
+    by_asks (write y) x e = absurd (cc)
+    by_asks (through y) x e = absurd (cc)
+    by_asks (outside y) x e = absurd (cc)
+
+mild_told : (floor : ℕ) (c : Call) (o : Option Refusal) (r : Result Answer Refusal) (fault : Fault) → Mild o → MildAnswer r → told floor c (unless o r) ≡ Err fault → number_of fault.refusal ≤ 3
+mild_told floor c (Some x) r fault h k e = let same : x ≡ fault.refusal = cc in subst (λ (y : Refusal). number_of y ≤ 3) same (h x refl)
+mild_told floor c None (Err x) fault h k e = let same : x ≡ fault.refusal = cc in subst (λ (y : Refusal). number_of y ≤ 3) same (k x refl)
+mild_told floor c None (Ok a) fault h k e = absurd (cc)
+
+-- the plain tables are those of the deeds
+turned_is : (c : Call) (n : Mode) → turned_away c n ≡ stop n c
+turned_is (Read w) Free = refl
+turned_is (Read w) Locked = refl
+turned_is (Read w) Granted = refl
+turned_is (Post s) Free = refl
+turned_is (Post s) Locked = refl
+turned_is (Post s) Granted = refl
+turned_is (Unposted s) Free = refl
+turned_is (Unposted s) Locked = refl
+turned_is (Unposted s) Granted = refl
+turned_is Advance Free = refl
+turned_is Advance Locked = refl
+turned_is Advance Granted = refl
+turned_is Lock Free = refl
+turned_is Lock Locked = refl
+turned_is Lock Granted = refl
+turned_is (LockedRead w) Free = refl
+turned_is (LockedRead w) Locked = refl
+turned_is (LockedRead w) Granted = refl
+turned_is (LockedWrite s) Free = refl
+turned_is (LockedWrite s) Locked = refl
+turned_is (LockedWrite s) Granted = refl
+turned_is Unlock Free = refl
+turned_is Unlock Locked = refl
+turned_is Unlock Granted = refl
+turned_is Ask Free = refl
+turned_is Ask Locked = refl
+turned_is Ask Granted = refl
+turned_is (MasterRead w) Free = refl
+turned_is (MasterRead w) Locked = refl
+turned_is (MasterRead w) Granted = refl
+turned_is (MasterWrite s) Free = refl
+turned_is (MasterWrite s) Locked = refl
+turned_is (MasterWrite s) Granted = refl
+turned_is Give Free = refl
+turned_is Give Locked = refl
+turned_is Give Granted = refl
+turned_is (Snoop w) Free = refl
+turned_is (Snoop w) Locked = refl
+turned_is (Snoop w) Granted = refl
+turned_is Flush Free = refl
+turned_is Flush Locked = refl
+turned_is Flush Granted = refl
+
+settles_is : (c : Call) → settles_at c ≡ settles_by c
+settles_is (Read w) = refl
+settles_is (Post s) = refl
+settles_is (Unposted s) = refl
+settles_is Advance = refl
+settles_is Lock = refl
+settles_is (LockedRead w) = refl
+settles_is (LockedWrite s) = refl
+settles_is Unlock = refl
+settles_is Ask = refl
+settles_is (MasterRead w) = refl
+settles_is (MasterWrite s) = refl
+settles_is Give = refl
+settles_is (Snoop w) = refl
+settles_is Flush = refl
+
+turned_floor : (f : ℕ) (c : Call) (n : Mode) (x : Refusal) → turned_away c n ≡ Some x → floor_for f x ≡ floor_above f
+turned_floor f (Read w) Free x e = absurd (cc)
+turned_floor f (Read w) Locked x e = let same : IsLocked ≡ x = cc in ap (floor_for f) (sym same)
+turned_floor f (Read w) Granted x e = absurd (cc)
+turned_floor f (Post s) Free x e = absurd (cc)
+turned_floor f (Post s) Locked x e = let same : IsLocked ≡ x = cc in ap (floor_for f) (sym same)
+turned_floor f (Post s) Granted x e = absurd (cc)
+turned_floor f (Unposted s) Free x e = absurd (cc)
+turned_floor f (Unposted s) Locked x e = let same : IsLocked ≡ x = cc in ap (floor_for f) (sym same)
+turned_floor f (Unposted s) Granted x e = absurd (cc)
+turned_floor f Advance Free x e = absurd (cc)
+turned_floor f Advance Locked x e = absurd (cc)
+turned_floor f Advance Granted x e = absurd (cc)
+turned_floor f Lock Free x e = absurd (cc)
+turned_floor f Lock Locked x e = let same : IsLocked ≡ x = cc in ap (floor_for f) (sym same)
+turned_floor f Lock Granted x e = let same : IsGranted ≡ x = cc in ap (floor_for f) (sym same)
+turned_floor f (LockedRead w) Free x e = let same : NotLocked ≡ x = cc in ap (floor_for f) (sym same)
+turned_floor f (LockedRead w) Locked x e = absurd (cc)
+turned_floor f (LockedRead w) Granted x e = let same : NotLocked ≡ x = cc in ap (floor_for f) (sym same)
+turned_floor f (LockedWrite s) Free x e = let same : NotLocked ≡ x = cc in ap (floor_for f) (sym same)
+turned_floor f (LockedWrite s) Locked x e = absurd (cc)
+turned_floor f (LockedWrite s) Granted x e = let same : NotLocked ≡ x = cc in ap (floor_for f) (sym same)
+turned_floor f Unlock Free x e = let same : NotLocked ≡ x = cc in ap (floor_for f) (sym same)
+turned_floor f Unlock Locked x e = absurd (cc)
+turned_floor f Unlock Granted x e = let same : NotLocked ≡ x = cc in ap (floor_for f) (sym same)
+turned_floor f Ask Free x e = absurd (cc)
+turned_floor f Ask Locked x e = let same : IsLocked ≡ x = cc in ap (floor_for f) (sym same)
+turned_floor f Ask Granted x e = let same : IsGranted ≡ x = cc in ap (floor_for f) (sym same)
+turned_floor f (MasterRead w) Free x e = let same : NotGranted ≡ x = cc in ap (floor_for f) (sym same)
+turned_floor f (MasterRead w) Locked x e = let same : NotGranted ≡ x = cc in ap (floor_for f) (sym same)
+turned_floor f (MasterRead w) Granted x e = absurd (cc)
+turned_floor f (MasterWrite s) Free x e = let same : NotGranted ≡ x = cc in ap (floor_for f) (sym same)
+turned_floor f (MasterWrite s) Locked x e = let same : NotGranted ≡ x = cc in ap (floor_for f) (sym same)
+turned_floor f (MasterWrite s) Granted x e = absurd (cc)
+turned_floor f Give Free x e = let same : NotGranted ≡ x = cc in ap (floor_for f) (sym same)
+turned_floor f Give Locked x e = let same : NotGranted ≡ x = cc in ap (floor_for f) (sym same)
+turned_floor f Give Granted x e = absurd (cc)
+turned_floor f (Snoop w) Free x e = absurd (cc)
+turned_floor f (Snoop w) Locked x e = absurd (cc)
+turned_floor f (Snoop w) Granted x e = absurd (cc)
+turned_floor f Flush Free x e = absurd (cc)
+turned_floor f Flush Locked x e = absurd (cc)
+turned_floor f Flush Granted x e = absurd (cc)
+
+place_is : (c : Call) → place_in (cargo_of c) ≡ told_at c
+place_is (Read w) = refl
+place_is (Post s) = refl
+place_is (Unposted s) = refl
+place_is Advance = refl
+place_is Lock = refl
+place_is (LockedRead w) = refl
+place_is (LockedWrite s) = refl
+place_is Unlock = refl
+place_is Ask = refl
+place_is (MasterRead w) = refl
+place_is (MasterWrite s) = refl
+place_is Give = refl
+place_is (Snoop w) = refl
+place_is Flush = refl
+
+-- what a refusal says besides its reason
+pub record Says (floor : ℕ) (c : Call) (fault : Fault) : Type 0 where
+  pub place : fault.place ≡ place_in (cargo_of c)
+  pub floor_is : fault.floor ≡ floor_for floor fault.refusal
+
+says_of : (floor : ℕ) (c : Call) (r : Result Answer Refusal) (fault : Fault) → told floor c r ≡ Err fault → Says floor c fault
+says_of floor c (Ok a) fault e = absurd (cc)
+says_of floor c (Err x) fault e =
+    let same : fault_of floor c x ≡ fault = cc in
+    let F : Fault → Type 0 = λ y. Says floor c y in
+    subst F same (record { place = refl; floor_is = refl })
+
+low_floor : (f : ℕ) (x : Refusal) → number_of x ≤ 2 → floor_for f x ≡ f
+low_floor f PastEnd h = refl
+low_floor f BadLanes h = refl
+low_floor f Unreadable h = absurd (omega arith)
+low_floor f IsLocked h = absurd (omega arith)
+low_floor f IsGranted h = absurd (omega arith)
+low_floor f NotLocked h = absurd (omega arith)
+low_floor f NotGranted h = absurd (omega arith)
+low_floor f UnfitSize h = absurd (omega arith)
+low_floor f ListLength h = absurd (omega arith)
+low_floor f ListWord h = absurd (omega arith)
+
+no_floor : (f : ℕ) (x : Refusal) → number_of x ≡ 3 → floor_for f x ≡ 0
+no_floor f PastEnd h = absurd (omega arith)
+no_floor f BadLanes h = absurd (omega arith)
+no_floor f Unreadable h = refl
+no_floor f IsLocked h = absurd (omega arith)
+no_floor f IsGranted h = absurd (omega arith)
+no_floor f NotLocked h = absurd (omega arith)
+no_floor f NotGranted h = absurd (omega arith)
+no_floor f UnfitSize h = absurd (omega arith)
+no_floor f ListLength h = absurd (omega arith)
+no_floor f ListWord h = absurd (omega arith)
+
+pub answered : (b : Book) (m : Moment) → m.answer ≡ answer b m.call → AnsweredIn b.state.facts.floor b.mode m
+answered b m e = record {
+  turned = λ x t.
+      e ∙ ap (λ (o : Option Refusal). told floor c (unless (or_else o (fits n (cargo_of c))) (says b.state c))) (sym (turned_is c b.mode) ∙ t)
+      ∙ ap₂ (λ (p f : ℕ). Err (record { refusal = x; place = p; floor = f })) (place_is c) (turned_floor floor c b.mode x t);
+  served = λ fault t a.
+      let none_stops : stop b.mode c ≡ None = sym (turned_is c b.mode) ∙ t in
+      mild_told floor c (fits n (cargo_of c)) (says b.state c) fault (mild_fits n (cargo_of c)) (mild_says b.state c)
+      (ap (λ (o : Option Refusal). told floor c (unless (or_else o (fits n (cargo_of c))) (says b.state c))) (sym none_stops) ∙ sym e ∙ a);
+  place = λ fault t a. (said fault a).place ∙ place_is c;
+  below = λ fault t a h. (said fault a).floor_is ∙ low_floor floor fault.refusal h;
+  unreadable = λ fault a h. (said fault a).floor_is ∙ no_floor floor fault.refusal h;
+}
+  where
+    c : Call
+    c = m.call
+
+    n : ℕ
+    n = b.state.facts.words
+
+    floor : ℕ
+    floor = b.state.facts.floor
+
+    said : (fault : Fault) → m.answer ≡ Err fault → Says floor c fault
+    said fault a = says_of floor c (unless (refused b c) (says b.state c)) fault (sym e ∙ a)
+
+pub facts_stay : (b : Book) (run : List Moment) → (after b run).state.facts ≡ b.state.facts
+facts_stay b [] = refl
+facts_stay b (x ∷ run) = facts_stay (step b x.call x.count) run
+
+pub all_in : (b : Book) (run : List Moment) → Follows b run → Held b run → AllIn b.state.facts.floor Locked run
+all_in b [] f h = tt
+all_in b (x ∷ run) f h =
+    let F : Mode → Type 0 = λ n. AnsweredIn b.state.facts.floor n x in
+    (subst F h.0 (answered b x f.1), all_in (step b x.call x.count) run f.2 h.1)
+
+-- MODES
+
+stays : (n : Mode) (o : Option Refusal) → if_taken o n n ≡ n
+stays n None = refl
+stays n (Some x) = refl
+
+unmoved : (n : Mode) (c : Call) (r : Result Answer Fault) → leads_to n c ≡ n → moved n c r ≡ n
+unmoved n c (Ok a) e = e
+unmoved n c (Err x) e = refl
+
+moves : (n : Mode) (floor : ℕ) (s : State) (c : Call) (o : Option Refusal) → if_taken o (goes_to n c) n ≡ moved n c (told floor c (unless o (says s c)))
+moves n floor s (Read w) o = stays n o ∙ sym (unmoved n (Read w) (told floor (Read w) (unless o (says s (Read w)))) refl)
+moves n floor s (Post y) o = stays n o ∙ sym (unmoved n (Post y) (told floor (Post y) (unless o (says s (Post y)))) refl)
+moves n floor s (Unposted y) o = stays n o ∙ sym (unmoved n (Unposted y) (told floor (Unposted y) (unless o (says s (Unposted y)))) refl)
+moves n floor s Advance o = stays n o ∙ sym (unmoved n Advance (told floor Advance (unless o (says s Advance))) refl)
+moves n floor s Lock None = refl
+moves n floor s Lock (Some x) = refl
+moves n floor s (LockedRead w) o = stays n o ∙ sym (unmoved n (LockedRead w) (told floor (LockedRead w) (unless o (says s (LockedRead w)))) refl)
+moves n floor s (LockedWrite y) o = stays n o ∙ sym (unmoved n (LockedWrite y) (told floor (LockedWrite y) (unless o (says s (LockedWrite y)))) refl)
+moves n floor s Unlock None = refl
+moves n floor s Unlock (Some x) = refl
+moves n floor s Ask None = refl
+moves n floor s Ask (Some x) = refl
+moves n floor s (MasterRead w) o = stays n o ∙ sym (unmoved n (MasterRead w) (told floor (MasterRead w) (unless o (says s (MasterRead w)))) refl)
+moves n floor s (MasterWrite y) o = stays n o ∙ sym (unmoved n (MasterWrite y) (told floor (MasterWrite y) (unless o (says s (MasterWrite y)))) refl)
+moves n floor s Give None = refl
+moves n floor s Give (Some x) = refl
+moves n floor s (Snoop w) o = stays n o ∙ sym (unmoved n (Snoop w) (told floor (Snoop w) (unless o (says s (Snoop w)))) refl)
+moves n floor s Flush o = stays n o ∙ sym (unmoved n Flush (told floor Flush (unless o (says s Flush))) refl)
+
+pub modes_follow : (b : Book) (run : List Moment) → Follows b run → (after b run).mode ≡ mode_by b.mode run
+modes_follow b [] f = refl
+modes_follow b (x ∷ run) f =
+    let one : (step b x.call x.count).mode ≡ moved b.mode x.call x.answer =
+    moves b.mode b.state.facts.floor b.state x.call (refused b x.call) ∙ ap (λ (r : Result Answer Fault). moved b.mode x.call r) (sym f.1) in
+    modes_follow (step b x.call x.count) run f.2 ∙ ap (λ (n : Mode). mode_by n run) one
+
+-- HOW MANY SETTLE
+
+taken_if_ok : (floor : ℕ) (c : Call) (o : Option Refusal) (r : Result Answer Refusal) (a : Answer) → told floor c (unless o r) ≡ Ok a → o ≡ None
+taken_if_ok floor c None r a e = refl
+taken_if_ok floor c (Some x) r a e = absurd (cc)
+
+pub as_many : (m : Memory) (p : ℕ → Bool) (b : Book) (l : Ledger) (x : Moment) (a : Answer) → Tells m p b l → Allowed b x.call x.count → x.answer ≡ answer b x.call → x.answer ≡ Ok a
+    → Admits (settles_at x.call) (length (l.waiting ++ joined p x)) x.count
+as_many m p b l x a h allowed e ok =
+    let taken = taken_if_ok b.state.facts.floor x.call (refused b x.call) (says b.state x.call) a (sym e ∙ ok) in
+    let size : length (l.waiting ++ joined p x) ≡ length (waiting_line b x.call) =
+    ap length (ap (λ (r : Result Answer Fault). l.waiting ++ joined p (moment x.call r x.count)) e ∙ joined_is p b l x.call x.count h.waiting) ∙ length-map (waiting_line b x.call) _ in
+    let rule : if_taken (refused b x.call) (settles_by x.call) none ≡ settles_at x.call =
+    ap (λ (o : Option Refusal). if_taken o (settles_by x.call) none) taken ∙ sym (settles_is x.call) in
+    let F : Rule → Type 0 = λ r. Admits r (length (waiting_line b x.call)) x.count in
+    let N : ℕ → Type 0 = λ n. Admits (settles_at x.call) n x.count in
+    subst N (sym size) (subst F rule allowed)

@@ -1,0 +1,338 @@
+-- What each call makes of the tables, in the words of the laws.
+use Rattle.std.proofs.Common.{◌≡◌, ℕ, ◌<◌, Bool, true, false, cond, if◌then◌else◌, not, ◌&&◌, eqb, [], ◌∷◌, ◌++◌, Some, None, Option, Result, sym, refl, ap, ◌∙◌, subst, inl, inr, arith, ◌/◌, zero, suc, ◌≤◌, length, length-append}
+use Rattle.std.specs.Option.{option_map_or}
+use Rattle.std.proofs.lemmas.Bool.{cond-true, cond-false, cases_eq, eq-eqb, ne_eqb, and_left, and_right, and_from, not_from_true}
+use Rattle.fault.specs.declared.Fault.{Fault}
+use Rattle.port.specs.declared.Store.{Store}
+use Rattle.port.specs.Steps.{reads, writes}
+use Rattle.port.specs.Memory.{line_of}
+use Rattle.directory.specs.declared.lru.WayNumber.{WayNumber}
+use Rattle.directory.specs.declared.sets.Way.{Way}
+use Rattle.directory.specs.declared.fills.Fill.{Fill}
+use Rattle.directory.specs.Touch.{victim_of}
+use Rattle.directory.specs.Dirs.{Dir, set_of, touched, found, installed, changed}
+use Rattle.directory.specs.Ticks.{next_word, complete, starting, with_word, fetched_word}
+use Rattle.directory.specs.Laws.{WayIsTouched, InstallKeepsOtherLines, StoreAddsItsWord}
+use Rattle.directory.proofs.Apart.{install_keeps, change_moves_none}
+use Rattle.directory.proofs.Sparing.{touch_touches, touch_again}
+use Rattle.directory.proofs.Ticking.{starts, store_adds}
+use Rattle.cache_tables.specs.Showing.{Shown, line_seen, whole, reading}
+use Rattle.cache_tables.specs.Rules.{Model, Turn, turn, idle, stowed, fetched_of, finished_of, finished, finish_calls, finish_turn, buffered_of, hit_of, hit, touched_of, touched_by, begun_fill, begun, read_after, read_turn, changed_word, changed_way, changed_of, written, fills_open, ready_turn, write_turn, advance_turn, fetches, lacking, fetch_calls, fetched}
+use Rattle.cache_tables.specs.Coherence.{Coherent}
+use Rattle.cache_tables.specs.Laws.{AsksForTheWord, ReadLeavesAll, ReadOnlyTouches, NothingAnswers, FillBegins, LateHitTouches, NoneOpen, WriteOnlyTouches, WriteLandsTheLine, OneWordComes}
+use Rattle.cache_tables.proofs.Keeping.{given, abandon, install_fill}
+use Rattle.cache_tables.proofs.Reading.{hit_sees, none_found, nothing_fetched, starts_there, begun_at}
+use Rattle.cache_tables.proofs.Changing.{overwritten, write_keeps}
+
+-- ---- how many words are fetched
+
+one_call : (v : Shown) (f : Option Fill) → length (fetch_calls v f) ≤ 1
+one_call v None = omega arith
+one_call v (Some b) = omega arith
+
+few_fetched : (n : ℕ) (v : Shown) (t : Model) → length (fetches n v t) ≤ n
+few_fetched zero v t = omega arith
+few_fetched (suc n) v t =
+    let one = one_call v t.fill in
+    let rest = few_fetched n v (fetched v t) in
+    let sum = length-append (fetch_calls v t.fill) (fetches n v (fetched v t)) in
+    omega (arith, one, rest, sum)
+
+few_calls : (v : Shown) (t : Model) → length (finish_calls v t) ≤ lacking t.fill
+few_calls v t = few_fetched (lacking t.fill) v t
+
+-- ---- a read
+
+-- where a way holds the line, a way answers
+hit_some : (d : Dir) (w : ℕ) (k : WayNumber) → found d (line_of w) ≡ Some k → (x : ℕ) × (hit d w ≡ Some x)
+hit_some d w k e = by_answer (hit d w) refl
+  where
+    by_answer : (o : Option ℕ) → hit d w ≡ o → (x : ℕ) × (hit d w ≡ Some x)
+    by_answer None h = absurd (let none = none_found d w (sym h) in cc)
+    by_answer (Some x) h = (x, h)
+
+hit_none : (d : Dir) (w : ℕ) → found d (line_of w) ≡ None → hit d w ≡ None
+hit_none d w e = ap (hit_of d w) e
+
+module _ (v : Shown) (t : Model) (w : ℕ) where
+  abbrev after_buffer : Turn
+  after_buffer = option_map_or (λ _. turn (touched_by t w) []) (hit t.dir w) (read_after v (finish_turn v t) w)
+
+  read_buffered : (x : ℕ) → buffered_of t.fill w ≡ Some x → read_turn v t w ≡ turn t []
+  read_buffered x e = ap (λ (o : Option ℕ). option_map_or (λ _. turn t []) o after_buffer) e
+
+  module _ (b : buffered_of t.fill w ≡ None) where
+    past_buffer : read_turn v t w ≡ after_buffer
+    past_buffer = ap (λ (o : Option ℕ). option_map_or (λ _. turn t []) o after_buffer) b
+
+    pub read_hit : (k : WayNumber) → found t.dir (line_of w) ≡ Some k → read_turn v t w ≡ turn (touched_of t w (Some k)) []
+    read_hit k e =
+        past_buffer
+        ∙ ap (λ (o : Option ℕ). option_map_or (λ _. turn (touched_by t w) []) o (read_after v (finish_turn v t) w)) (hit_some t.dir w k e).1
+        ∙ ap (λ (o : Option WayNumber). turn (touched_of t w o) []) e
+
+    module _ (n : found t.dir (line_of w) ≡ None) where
+      past_ways : read_turn v t w ≡ read_after v (finish_turn v t) w
+      past_ways =
+          past_buffer ∙ ap (λ (o : Option ℕ). option_map_or (λ _. turn (touched_by t w) []) o (read_after v (finish_turn v t) w)) (hit_none t.dir w n)
+
+      abbrev missed : Turn
+      missed = turn (begun v (finished v t).dir w) (finish_calls v t ++ (reads w (reading v w) ∷ []))
+
+      read_late : (k : WayNumber) → found (finished v t).dir (line_of w) ≡ Some k → read_turn v t w ≡ turn (touched_of (finished v t) w (Some k)) (finish_calls v t)
+      read_late k e =
+          past_ways
+          ∙ ap (λ (o : Option ℕ). option_map_or (λ _. turn (touched_by (finished v t) w) (finish_calls v t)) o missed) (hit_some (finished v t).dir w k e).1
+          ∙ ap (λ (o : Option WayNumber). turn (touched_of (finished v t) w o) (finish_calls v t)) e
+
+      pub read_missed : found (finished v t).dir (line_of w) ≡ None → read_turn v t w ≡ missed
+      read_missed e =
+          past_ways ∙ ap (λ (o : Option ℕ). option_map_or (λ _. turn (touched_by (finished v t) w) (finish_calls v t)) o missed) (hit_none (finished v t).dir w e)
+
+  pub finish_idle : finished v t ≡ idle (finished v t).dir
+  finish_idle = by_fill t.fill
+    where
+      by_fill : (f : Option Fill) → finished_of v t.dir f ≡ idle (finished_of v t.dir f).dir
+      by_fill None = refl
+      by_fill (Some b) = refl
+
+  pub buffered_leaves_all : (x : ℕ) → buffered_of t.fill w ≡ Some x → ReadLeavesAll v t w
+  buffered_leaves_all x e = record { tables = ap (λ (u : Turn). u.tables) (read_buffered x e); calls = ap (λ (u : Turn). u.calls) (read_buffered x e) }
+
+  pub hits_only_touch : (k : WayNumber) → buffered_of t.fill w ≡ None → found t.dir (line_of w) ≡ Some k → ReadOnlyTouches v t w k
+  hits_only_touch k b e =
+      let same = read_hit b k e in
+      let F : Turn → Type 0 = λ u. WayIsTouched t.dir u.tables.dir (line_of w) k in
+      record {
+        touch = subst F (sym same) (touch_touches t.dir t.dir (line_of w) k refl);
+        ways = ap (λ (u : Turn). u.tables.dir.way) same;
+        fill = ap (λ (u : Turn). u.tables.fill) same;
+        calls = ap (λ (u : Turn). u.calls) same;
+      }
+
+  pub late_hits_touch : (k : WayNumber) → buffered_of t.fill w ≡ None → found t.dir (line_of w) ≡ None → found (finished v t).dir (line_of w) ≡ Some k → LateHitTouches v t w k
+  late_hits_touch k b n e =
+      let same = read_late b n k e in
+      let F : Turn → Type 0 = λ u. WayIsTouched (finished v t).dir u.tables.dir (line_of w) k in
+      record {
+        touch = subst F (sym same) (touch_touches (finished v t).dir (finished v t).dir (line_of w) k refl);
+        ways = ap (λ (u : Turn). u.tables.dir.way) same;
+        fill = ap (λ (u : Turn). u.tables.fill) same ∙ ap (λ (m : Model). m.fill) finish_idle;
+        few = let n = ap (λ (u : Turn). length u.calls) same in let few = few_calls v t in omega (arith, n, few);
+      }
+
+  pub misses_ask_once : NothingAnswers v t w → AsksForTheWord v t w
+  misses_ask_once n = record { first = finish_calls v t; few = few_calls v t; calls = ap (λ (u : Turn). u.calls) (read_missed n.buffer n.way n.late) }
+
+  pub misses_else_nothing : NothingAnswers v t w → (v.readable w ≡ true → v.cacheable (line_of w) ≡ false) → (read_turn v t w).tables ≡ finished v t
+  misses_else_nothing n barred =
+      ap (λ (u : Turn). u.tables) (read_missed n.buffer n.way n.late)
+      ∙ begun_at v (finished v t).dir w (v.readable w) (v.cacheable (line_of w)) refl refl
+      ∙ cond-false (v.readable w && v.cacheable (line_of w)) _ _ (never (v.readable w) (v.cacheable (line_of w)) barred)
+      ∙ sym finish_idle
+    where
+      never : (r k : Bool) → (r ≡ true → k ≡ false) → (r && k) ≡ false
+      never true k h = h refl
+      never false k h = refl
+
+  pub misses_fill : Coherent v t → NothingAnswers v t w → w < v.words → v.readable w ≡ true → v.cacheable (line_of w) ≡ true → FillBegins v t w
+  misses_fill c n inside r k =
+      let d = (finished v t).dir in
+      let p = v.protected (line_of w) in
+      let m = victim_of (d.lru (set_of (line_of w))) in
+      let s = starting w m p in
+      let same = ap (λ (u : Turn). u.tables) (read_missed n.buffer n.way n.late) ∙ begun_at v d w true true r k in
+      let adds = store_adds s (starts w m p (omega (arith, inside, c.few))) (v.word w) in
+      let at = starts_there w m p in
+      record {
+        fill = begun_fill d w p (v.word w);
+        under = ap (λ (u : Model). u.fill) same;
+        word = ap (fetched_word (begun_fill d w p (v.word w))) (sym at) ∙ adds.new;
+        alone = λ a x e. elim (cases_eq a w) [
+          | inl y ↦ y
+          | inr y ↦ absurd (nothing_fetched w m p a x (sym (adds.others a (λ z. y (z ∙ at))) ∙ e))
+        ];
+        way = refl;
+        lines = ap (λ (u : Model). u.dir) same;
+      }
+
+-- ---- a fill is finished
+
+module _ (v : Shown) (d : Dir) where
+  pub finish_keeps : (f : Option Fill) → Coherent v (record { dir = d; fill = f }) → Coherent v (finished_of v d f)
+  finish_keeps None c = abandon v d None c
+  finish_keeps (Some b) c = by_whole (whole v b.line) refl
+    where
+      by_whole : (t : Bool) → whole v b.line ≡ t → Coherent v (idle (cond t (installed d b.line b.way b.protect (line_seen v b.line)) d))
+      by_whole true e = install_fill v d (Some b) b (line_seen v b.line) c (c.fill b refl).inside (c.fill b refl).shut (c.fill b refl).absent refl e
+      by_whole false e = abandon v d (Some b) c
+
+-- ---- a write
+
+-- a write moves no line
+pub same_lines : (d : Dir) (w : Store) (k : WayNumber) (o : Option Way) (line : ℕ) → found (changed_way d w k o) line ≡ found d line
+same_lines d w k None line = refl
+same_lines d w k (Some y) line = by_mark y.protect
+  where
+    by_mark : (p : Bool) → found (if p then d else changed d w.word k (changed_word w y)) line ≡ found d line
+    by_mark true = refl
+    by_mark false = change_moves_none d w.word k (changed_word w y) line
+
+-- nor does it mark a set
+same_marks : (d : Dir) (w : Store) (k : WayNumber) (o : Option Way) → (changed_way d w k o).marks ≡ d.lru
+same_marks d w k None = refl
+same_marks d w k (Some y) = by_mark y.protect
+  where
+    by_mark : (p : Bool) → (if p then d else changed d w.word k (changed_word w y)).marks ≡ d.lru
+    by_mark true = refl
+    by_mark false = refl
+
+moves_none : (d : Dir) (w : Store) (o : Option WayNumber) (line : ℕ) → found (changed_of d w o) line ≡ found d line
+moves_none d w None line = refl
+moves_none d w (Some k) line = same_lines d w k (d.way (set_of (line_of w.word)) k) line
+
+none_open : (v : Shown) (t : Model) (line : ℕ) → Coherent v t → NoneOpen v t line → fills_open t.fill line ≡ false
+none_open v t line c barred = by_fill t.fill refl
+  where
+    by_fill : (f : Option Fill) → t.fill ≡ f → fills_open f line ≡ false
+    by_fill None e = refl
+    by_fill (Some b) e =
+        elim (cases_eq b.line line) [
+          | inr n ↦ and_left (eqb b.line line) (not b.protect) (ne_eqb b.line line n)
+          | inl y ↦ and_right (eqb b.line line) (not b.protect) (not_from_true b.protect ((c.fill b e).shut ∙ ap (λ (l : ℕ). v.protected l) y ∙ barred b e y))
+        ]
+
+module _ (v : Shown) (t : Model) (w : Store) (r : Result (Unit {0}) Fault) (c : Coherent v t) where
+  abbrev line : ℕ
+  line = line_of w.word
+
+  module _ (barred : NoneOpen v t line) where
+    ready : ready_turn v t line ≡ turn t []
+    ready = cond-false (fills_open t.fill line) (finish_turn v t) (turn t []) (none_open v t line c barred)
+
+    after : (write_turn v t w r).tables ≡ written t w
+    after = ap (λ (u : Turn). written u.tables w) ready
+
+    pub writes_only_touch : WriteOnlyTouches v t w r
+    writes_only_touch = record {
+      fill = ap (λ (m : Model). m.fill) after;
+      lines = λ l. ap (λ (m : Model). found m.dir l) after ∙ moves_none t.dir w (found t.dir line) l;
+      touch = λ k e.
+          let F : Dir → Type 0 = λ d. WayIsTouched t.dir d line k in
+          let new = changed_way t.dir w k (t.dir.way (set_of line) k) in
+          let same : (write_turn v t w r).tables.dir ≡ touched new (set_of line) k = ap (λ (m : Model). m.dir) after ∙ ap (changed_of t.dir w) e in
+          subst F (sym same) (touch_touches t.dir new line k (same_marks t.dir w k (t.dir.way (set_of line) k)));
+      misses = λ e. after ∙ ap (λ (o : Option WayNumber). record { dir = changed_of t.dir w o; fill = t.fill }) e;
+      calls = ap (λ (u : Turn). u.calls ++ (writes w r ∷ [])) ready;
+    }
+
+  module _ (b : Fill) (is : t.fill ≡ Some b) (at : b.line ≡ line) (o : v.protected b.line ≡ false) where
+    is_open : fills_open t.fill line ≡ true
+    is_open =
+        ap (λ (f : Option Fill). fills_open f line) is
+        ∙ and_from (eqb b.line line) (not b.protect) (eq-eqb b.line line at) (ap not ((c.fill b is).shut ∙ o))
+
+    ends : (write_turn v t w r).tables ≡ written (finished v t) w
+    ends = ap (λ (u : Turn). written u.tables w) (cond-true (fills_open t.fill line) (finish_turn v t) (turn t []) is_open)
+
+    done_with : finished v t ≡ finished_of v t.dir (Some b)
+    done_with = ap (finished_of v t.dir) is
+
+    module _ (all : whole v b.line ≡ true) where
+      abbrev landed : Dir
+      landed = installed t.dir b.line b.way b.protect (line_seen v b.line)
+
+      has_landed : (write_turn v t w r).tables ≡ written (idle landed) w
+      has_landed =
+          ends ∙ ap (λ (m : Model). written m w) done_with
+          ∙ ap (λ (x : Bool). written (idle (cond x landed t.dir)) w) all
+
+      lands_there : found landed b.line ≡ Some b.way
+      lands_there = (install_keeps t.dir b.line b.way b.protect (line_seen v b.line) c.apart (c.fill b is).absent).new
+
+      found_there : found landed line ≡ Some b.way
+      found_there = ap (found landed) (sym at) ∙ lands_there
+
+      stands : found (write_turn v t w r).tables.dir b.line ≡ Some b.way
+      stands = ap (λ (m : Model). found m.dir b.line) has_landed ∙ moves_none landed w (found landed line) b.line ∙ lands_there
+
+      -- what the way answers is what is seen with the write in it
+      answers : (a : ℕ) → line_of a ≡ b.line → hit (write_turn v t w r).tables.dir a ≡ Some ((overwritten v w).word a)
+      answers a e =
+          let u = (write_turn v t w r).tables in
+          let some = hit_some u.dir a b.way (ap (found u.dir) e ∙ stands) in
+          let kept : Coherent (overwritten v w) u =
+          subst (λ (m : Model). Coherent (overwritten v w) m) (sym ends)
+          (write_keeps v w (finished v t) (finish_keeps v t.dir t.fill c) (ap (λ (m : Model). fills_open m.fill line) (finish_idle v t w.word))) in
+          some.1 ∙ ap Some (hit_sees (overwritten v w) u a some.0 kept (sym some.1)).1
+
+      is_touched : WayIsTouched t.dir (write_turn v t w r).tables.dir b.line b.way
+      is_touched =
+          let new = changed_way landed w b.way (landed.way (set_of line) b.way) in
+          let F : Dir → Type 0 = λ d. WayIsTouched t.dir d b.line b.way in
+          let same : (write_turn v t w r).tables.dir ≡ touched new (set_of b.line) b.way =
+          ap (λ (m : Model). m.dir) has_landed ∙ ap (changed_of landed w) found_there ∙ ap (λ (l : ℕ). touched new (set_of l) b.way) (sym at) in
+          subst F (sym same) (touch_again t.dir new b.line b.way (same_marks landed w b.way (landed.way (set_of line) b.way)))
+
+    pub writes_land : WriteLandsTheLine v t w r b
+    writes_land = record {
+      ends = ap (λ (m : Model). m.fill) ends ∙ ap (λ (m : Model). m.fill) (finish_idle v t w.word);
+      way = stands;
+      here = λ all.
+          answers all w.word (sym at)
+          ∙ ap Some (cond-true (eqb w.word w.word) _ _ (eq-eqb w.word w.word refl) ∙ cond-false (v.protected (w.word / 8)) _ _ (ap (λ (l : ℕ). v.protected l) (sym at) ∙ o));
+      rest = λ all a e n. answers all a e ∙ ap Some (cond-false (eqb a w.word) _ _ (ne_eqb a w.word n));
+      touch = is_touched;
+      first = finish_calls v t;
+      few = few_calls v t;
+      calls = ap (λ (u : Turn). u.calls ++ (writes w r ∷ [])) (cond-true (fills_open t.fill line) (finish_turn v t) (turn t []) is_open);
+    }
+
+-- ---- an advance
+
+module _ (v : Shown) (d : Dir) (b : Fill) (c : Coherent v (record { dir = d; fill = Some b })) where
+  abbrev next : Fill
+  next = with_word b (v.word (next_word b))
+
+  fetch_more : (e : Fill) → (fetched_of v d (Some b)).fill ≡ Some e → StoreAddsItsWord b e (v.word (next_word b)) × ((fetched_of v d (Some b)).dir ≡ d)
+  fetch_more e = by_read (v.readable (next_word b))
+    where
+      by_full : (full : Bool) → (cond full (idle (installed d b.line b.way b.protect next.words)) (record { dir = d; fill = Some next })).fill ≡ Some e →
+          StoreAddsItsWord b e (v.word (next_word b)) × ((cond full (idle (installed d b.line b.way b.protect next.words)) (record { dir = d; fill = Some next })).dir ≡ d)
+      by_full true h = absurd (cc)
+      by_full false h = (given (λ (x : Fill). StoreAddsItsWord b x (v.word (next_word b))) next e h (store_adds b (c.fill b refl).under (v.word (next_word b))), refl)
+
+      by_read : (t : Bool) → (cond t (stowed d next) (idle d)).fill ≡ Some e → StoreAddsItsWord b e (v.word (next_word b)) × ((cond t (stowed d next) (idle d)).dir ≡ d)
+      by_read true h = by_full (complete next) h
+      by_read false h = absurd (cc)
+
+  fetch_last : v.readable (next_word b) ≡ true → (fetched_of v d (Some b)).fill ≡ None → InstallKeepsOtherLines d (fetched_of v d (Some b)).dir b.line b.way
+  fetch_last = by_read (v.readable (next_word b))
+    where
+      by_full : (full : Bool) → (cond full (idle (installed d b.line b.way b.protect next.words)) (record { dir = d; fill = Some next })).fill ≡ None →
+          InstallKeepsOtherLines d (cond full (idle (installed d b.line b.way b.protect next.words)) (record { dir = d; fill = Some next })).dir b.line b.way
+      by_full true h = install_keeps d b.line b.way b.protect next.words c.apart (c.fill b refl).absent
+      by_full false h = absurd (cc)
+
+      by_read : (t : Bool) → t ≡ true → (cond t (stowed d next) (idle d)).fill ≡ None → InstallKeepsOtherLines d (cond t (stowed d next) (idle d)).dir b.line b.way
+      by_read true q h = by_full (complete next) h
+      by_read false q h = absurd (cc)
+
+  one_word_comes : OneWordComes v (record { dir = d; fill = Some b }) b
+  one_word_comes = record {
+    calls = refl;
+    more = fetch_more;
+    last = fetch_last;
+    torn = λ e.
+        let same : fetched_of v d (Some b) ≡ idle d = cond-false (v.readable (next_word b)) _ _ e in
+        (ap (λ (m : Model). m.fill) same, ap (λ (m : Model). m.dir) same);
+  }
+
+-- ---- an advance
+
+pub advances_fetch_one : (v : Shown) (d : Dir) (f : Option Fill) (b : Fill) → Coherent v (record { dir = d; fill = f }) → f ≡ Some b → OneWordComes v (record { dir = d; fill = f }) b
+advances_fetch_one v d None b c e = absurd (cc)
+advances_fetch_one v d (Some a) b c e = given (λ (x : Fill). OneWordComes v (record { dir = d; fill = Some a }) x) a b e (one_word_comes v d a c)
+
+pub advances_else_nothing : (v : Shown) (t : Model) → t.fill ≡ None → (advance_turn v t).tables ≡ t
+advances_else_nothing v t e = ap (fetched_of v t.dir) e ∙ ap (λ (f : Option Fill). record { dir = t.dir; fill = f }) (sym e)
