@@ -6,6 +6,7 @@ use board::{compare, run};
 use calls::Call;
 use joined_map::JoinedMap;
 use port::{Port, Store};
+use printed::{AnswerText, Printed};
 use std::alloc::{AllocError, Global};
 use std::io;
 use write_buffer::WriteBuffer;
@@ -197,8 +198,8 @@ fn try_list<P: Port + Drop>(
     let outcome = run(rt.alloc(), port, calls)?;
     let floor = outcome.board.floor();
     println!(rt; "{title}: board on floor {floor}")?;
-    for (call, answer) in calls.iter().zip(outcome.answers.iter()) {
-        println!(rt; "  {call}: {answer:?}")?;
+    for (number, (call, answer)) in (1u64..).zip(calls.iter().zip(outcome.answers.iter())) {
+        rt.println(Printed::Answered(number, *call, *answer))?;
     }
     let waiting = outcome.board.waiting();
     println!(rt; "  waiting {waiting}")
@@ -214,12 +215,11 @@ fn try_pair<P: Port + Drop, Q: Port + Drop>(
 ) -> io::Result<()> {
     let (first, second) = compare(rt.alloc(), one, other, calls)?;
     println!(rt; "{title}:")?;
-    for ((call, one), other) in calls
-        .iter()
-        .zip(first.answers.iter())
-        .zip(second.answers.iter())
-    {
-        println!(rt; "  {call}: {one:?} and {other:?}")?;
+    let answers = first.answers.iter().zip(second.answers.iter());
+    for (number, (call, (one, other))) in (1u64..).zip(calls.iter().zip(answers)) {
+        let one = AnswerText(*one);
+        let other = AnswerText(*other);
+        println!(rt; "{number} {call} {one} and {other}")?;
     }
     Ok(())
 }

@@ -18,7 +18,7 @@ use Rattle.book.specs.declared.answer.Answer.{Answer}
 use Rattle.book.specs.declared.answer.Answer.TheVariants.{Word}
 use Rattle.book.specs.Tables.{place_in, floor_for, fault_of, or_else, in_range, fits, stop, Asks, nothing, drain, advance, flush, read, peek, snoop, write, through, outside, deed, if_taken, goes_to, settles_by, Rule, none}
 use Rattle.book.specs.Book.{Book, refused, waiting_line, step, Admits, Allowed, reading, told_of, says, unless, told, answer}
-use Rattle.book.specs.Runs.{Moment, moment, after, Follows, Ledger, joined, leads_to, moved, mode_by}
+use Rattle.book.specs.Runs.{Moment, moment, after, Follows, Ledger, joining_entries, leads_to, moved, mode_by}
 use Rattle.book.specs.Promise.{turned_away, told_at, AnsweredIn, AllIn, settles_at}
 use Rattle.book.proofs.Records.{Tells, joined_is}
 use Rattle.book.proofs.Locks.{Held}
@@ -319,11 +319,11 @@ taken_if_ok floor c None r a e = refl
 taken_if_ok floor c (Some x) r a e = absurd (cc)
 
 pub as_many : (m : Memory) (p : ℕ → Bool) (b : Book) (l : Ledger) (x : Moment) (a : Answer) → Tells m p b l → Allowed b x.call x.count → x.answer ≡ answer b x.call → x.answer ≡ Ok a
-    → Admits (settles_at x.call) (length (l.waiting ++ joined p x)) x.count
+    → Admits (settles_at x.call) (length (l.waiting ++ joining_entries p x)) x.count
 as_many m p b l x a h allowed e ok =
     let taken = taken_if_ok b.state.facts.floor x.call (refused b x.call) (says b.state x.call) a (sym e ∙ ok) in
-    let size : length (l.waiting ++ joined p x) ≡ length (waiting_line b x.call) =
-    ap length (ap (λ (r : Result Answer Fault). l.waiting ++ joined p (moment x.call r x.count)) e ∙ joined_is p b l x.call x.count h.waiting) ∙ length-map (waiting_line b x.call) _ in
+    let size : length (l.waiting ++ joining_entries p x) ≡ length (waiting_line b x.call) =
+    ap length (ap (λ (r : Result Answer Fault). l.waiting ++ joining_entries p (moment x.call r x.count)) e ∙ joined_is p b l x.call x.count h.waiting) ∙ length-map (waiting_line b x.call) _ in
     let rule : if_taken (refused b x.call) (settles_by x.call) none ≡ settles_at x.call =
     ap (λ (o : Option Refusal). if_taken o (settles_by x.call) none) taken ∙ sym (settles_is x.call) in
     let F : Rule → Type 0 = λ r. Admits r (length (waiting_line b x.call)) x.count in

@@ -12,7 +12,7 @@ use Rattle.book.specs.declared.answer.Answer.{Answer}
 use Rattle.book.specs.declared.answer.Answer.TheVariants.{Done}
 use Rattle.book.specs.Tables.{if_taken, posts, masters_writes, Rule, none, some, one_or_more, all}
 use Rattle.book.specs.Book.{Book, refused, joins, masters, waiting_line, step, rule, Admits, says, unless, told, answer}
-use Rattle.book.specs.Runs.{Moment, moment, after, Follows, if_ok, Entry, entry_of, marked, own_write, masters_write, locked_write, Ledger, joined, entered, ledger, total}
+use Rattle.book.specs.Runs.{Moment, moment, after, Follows, if_ok, Entry, entry_of, marked, own_write, masters_write, locked_write, Ledger, joining_entries, entered, ledger, total}
 
 -- ACCEPTED WRITES, read off the answers
 
@@ -81,7 +81,7 @@ pub record Tells (m : Memory) (p : ℕ → Bool) (b : Book) (l : Ledger) : Type 
   pub memory : b.state.settled ≡ applied p writes m
 
 pub joined_is : (p : ℕ → Bool) (b : Book) (l : Ledger) (c : Call) (k : ℕ) → l.waiting ≡ marked p b.state.waiting
-    → l.waiting ++ joined p (moment c (answer b c) k) ≡ marked p (waiting_line b c)
+    → l.waiting ++ joining_entries p (moment c (answer b c) k) ≡ marked p (waiting_line b c)
 joined_is p b l c k e =
     ap₂ (λ (xs : List Entry) (ys : List Store). xs ++ marked p ys) e (took_posts b c) ∙ sym (map-append (entry_of p) b.state.waiting (joins b c))
 
@@ -116,10 +116,10 @@ pub once : (p : ℕ → Bool) (l : Ledger) (run : List Moment) → l.own ++ l.wa
 once p l [] e = e
 once p l (x ∷ run) e =
     once p (entered p l x) run
-    (append_assoc l.own (take x.count (l.waiting ++ joined p x)) (drop x.count (l.waiting ++ joined p x))
-    ∙ ap (λ (xs : List Entry). l.own ++ xs) (take-append-drop x.count (l.waiting ++ joined p x))
-    ∙ sym (append_assoc l.own l.waiting (joined p x))
-    ∙ ap (λ (xs : List Entry). xs ++ joined p x) e)
+    (append_assoc l.own (take x.count (l.waiting ++ joining_entries p x)) (drop x.count (l.waiting ++ joining_entries p x))
+    ∙ ap (λ (xs : List Entry). l.own ++ xs) (take-append-drop x.count (l.waiting ++ joining_entries p x))
+    ∙ sym (append_assoc l.own l.waiting (joining_entries p x))
+    ∙ ap (λ (xs : List Entry). xs ++ joining_entries p x) e)
 
 within : (r : Rule) (n k : ℕ) → Admits r n k → k ≤ n
 within none n k h = omega arith
@@ -132,12 +132,12 @@ pub many : (m : Memory) (p : ℕ → Bool) (b : Book) (l : Ledger) (run : List M
 many m p b l [] f h = omega arith
 many m p b l (x ∷ run) f h =
     let next = subst (λ (r : Result Answer Fault). Tells m p (step b x.call x.count) (entered p l (moment x.call r x.count))) (sym f.1) (tells_step m p b l x.call x.count h) in
-    let size : length (l.waiting ++ joined p x) ≡ length (waiting_line b x.call) =
-    ap length (ap (λ (r : Result Answer Fault). l.waiting ++ joined p (moment x.call r x.count)) f.1 ∙ joined_is p b l x.call x.count h.waiting) ∙ length-map (waiting_line b x.call) (entry_of p) in
+    let size : length (l.waiting ++ joining_entries p x) ≡ length (waiting_line b x.call) =
+    ap length (ap (λ (r : Result Answer Fault). l.waiting ++ joining_entries p (moment x.call r x.count)) f.1 ∙ joined_is p b l x.call x.count h.waiting) ∙ length-map (waiting_line b x.call) (entry_of p) in
     let le : x.count ≤ length (waiting_line b x.call) = within (rule b x.call) (length (waiting_line b x.call)) x.count f.0 in
-    let front : length (take x.count (l.waiting ++ joined p x)) ≡ x.count = length-take x.count (l.waiting ++ joined p x) ∙ omega arith in
+    let front : length (take x.count (l.waiting ++ joining_entries p x)) ≡ x.count = length-take x.count (l.waiting ++ joining_entries p x) ∙ omega arith in
     let rest = many m p (step b x.call x.count) (entered p l x) run f.2 next in
-    let own = length-append l.own (take x.count (l.waiting ++ joined p x)) in omega (arith, rest, own, front)
+    let own = length-append l.own (take x.count (l.waiting ++ joining_entries p x)) in omega (arith, rest, own, front)
 
 -- PARTS OF A RUN
 

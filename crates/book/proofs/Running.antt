@@ -18,7 +18,7 @@ use Rattle.book.specs.declared.answer.Answer.TheVariants.{Done, Word}
 use Rattle.book.specs.Tables.{if_locked, in_range, if_taken, posts, masters_writes, goes_to, settles_by, Rule, none, some, one_or_more, all}
 use Rattle.book.specs.Book.{Book, book_of, first, refused, joins, masters, mastered, waiting_line, settle, step, rule, Admits, Allowed, says, unless, told, answer}
 use Rattle.book.specs.Calling.{Called}
-use Rattle.book.specs.Runs.{Moment, moment, calls_of, answers_of, after, Follows, Entry, ledger, blank, locked_writes}
+use Rattle.book.specs.Runs.{Moment, moment, calls_of, answers_of, after, Follows, Entry, ledger, no_entries, locked_writes}
 use Rattle.book.specs.Promise.{Comes, ReadsAreNewest, MastersReadsAreSettled, AnsweredIn, AllIn, AnswersKeepTheModes, AsManySettleAsSaid, OnlyTheHolderWrites, ALockHolds, CallsMade, none_made, one_more, NeverAnOldDigit, BothKeep, TheBookIsSound}
 use Rattle.book.proofs.Counts.{settle_none}
 use Rattle.book.proofs.Bytes.{comes, one_source}
@@ -70,18 +70,18 @@ answer_seen b c a v calm (inr e) h =
 calm_first : (s : State) → Calm (first s)
 calm_first s e = refl
 
-tells_first : (s : State) → Tells (seen s) s.protected (first s) blank
+tells_first : (s : State) → Tells (seen s) s.protected (first s) no_entries
 tells_first s = record { marks = refl; waiting = refl; writes = []; settled = refl; memory = refl }
 
 seen_comes : (s : State) (run : List Moment) (a v : ℕ) (lane : Lane) → Follows (first s) run → (seen (after (first s) run).state).word a ≡ v
-    → Comes lane a (ledger s.protected blank run).waiting (ledger s.protected blank run).settled ((seen s).word a) (byte lane v)
+    → Comes lane a (ledger s.protected no_entries run).waiting (ledger s.protected no_entries run).settled ((seen s).word a) (byte lane v)
 seen_comes s run a v lane f e =
     let p = s.protected in
     let d = after (first s) run in
-    let t = tells_run (seen s) p (first s) blank run f (tells_first s) in
+    let t = tells_run (seen s) p (first s) no_entries run f (tells_first s) in
     let word : (applied p d.state.waiting (applied p t.writes (seen s))).word a ≡ v =
     ap₂ (λ (x : ℕ → Bool) (m : Memory). (applied x d.state.waiting m).word a) (sym t.marks) (sym t.memory) ∙ e in
-    subst (λ (x : ℕ). Comes lane a (ledger p blank run).waiting (ledger p blank run).settled ((seen s).word a) (byte lane x)) word
+    subst (λ (x : ℕ). Comes lane a (ledger p no_entries run).waiting (ledger p no_entries run).settled ((seen s).word a) (byte lane x)) word
     (subst₂ (λ (xs ys : List Entry). Comes lane a xs ys ((seen s).word a) (byte lane ((applied p d.state.waiting (applied p t.writes (seen s))).word a)))
     (sym t.waiting) (sym t.settled) (comes p lane a d.state.waiting t.writes (seen s)))
 
@@ -110,7 +110,7 @@ a_lock_holds s run f before under later m split is locks unlocked =
     ap (λ (c : Call). (step a c m.count).mode) is ∙ now_locked a m.count (ap (answer a) (sym is) ∙ sym here.1 ∙ locks) in
     let hold = held b under locked rest unlocked in
     let out = locked_run b under (calm locked) rest hold in
-    let marks = (tells_run (seen s) s.protected (first s) blank (before ++ (m ∷ [])) begun (tells_first s)).marks in
+    let marks = (tells_run (seen s) s.protected (first s) no_entries (before ++ (m ∷ [])) begun (tells_first s)).marks in
     let F : Book → Type 0 = λ x. OnlyTheHolderWrites s under x (after x under) in (
       subst (λ (f : Facts). AllIn f.floor Locked under) (facts_stay (first s) before) (all_in b under rest hold),
       subst F (sym at) (record {
@@ -128,10 +128,10 @@ masters_reads s run f before later m a v lane split is e =
     let early = front (first s) before (m ∷ later) g in
     let here = back (first s) before (m ∷ later) g in
     let d = after (first s) before in
-    let t = tells_run (seen s) p (first s) blank before early (tells_first s) in
+    let t = tells_run (seen s) p (first s) no_entries before early (tells_first s) in
     let word = (said d.state.facts.floor (MasterRead a) (refused d (MasterRead a)) (d.state.settled.readable a) (d.state.settled.word a) v (ap (answer d) (sym is) ∙ sym here.1 ∙ e)).1 in
     let same : (applied p [] (applied p t.writes (seen s))).word a ≡ v = ap (λ (x : Memory). x.word a) (sym t.memory) ∙ word in
-    subst (λ (x : ℕ). Comes lane a [] (ledger p blank before).settled ((seen s).word a) (byte lane x)) same
+    subst (λ (x : ℕ). Comes lane a [] (ledger p no_entries before).settled ((seen s).word a) (byte lane x)) same
     (subst (λ (ys : List Entry). Comes lane a [] ys ((seen s).word a) (byte lane ((applied p [] (applied p t.writes (seen s))).word a))) (sym t.settled)
     (comes p lane a [] t.writes (seen s)))
 
@@ -146,8 +146,8 @@ as_many_settle : (s : State) (run : List Moment) → Follows (first s) run → A
 as_many_settle s run f before later m a split ok =
     let g = subst (Follows (first s)) split f in
     let here = back (first s) before (m ∷ later) g in
-    let t = tells_run (seen s) s.protected (first s) blank before (front (first s) before (m ∷ later) g) (tells_first s) in
-    as_many (seen s) s.protected (after (first s) before) (ledger s.protected blank before) m a t here.0 here.1 ok
+    let t = tells_run (seen s) s.protected (first s) no_entries before (front (first s) before (m ∷ later) g) (tells_first s) in
+    as_many (seen s) s.protected (after (first s) before) (ledger s.protected no_entries before) m a t here.0 here.1 ok
 
 -- THE PROMISE
 
@@ -175,8 +175,8 @@ keeps G p made run m q d e c =
       as_many_settle_as_said = as_many_settle s run f.follows;
       a_lock_holds = a_lock_holds s run f.follows;
       each_write_settles_once = record {
-        once = once s.protected blank run refl;
-        many = let h = many (seen s) s.protected (first s) blank run f.follows (tells_first s) in omega (arith, h);
+        once = once s.protected no_entries run refl;
+        many = let h = many (seen s) s.protected (first s) no_entries run f.follows (tells_first s) in omega (arith, h);
       };
     }
 

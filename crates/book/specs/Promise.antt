@@ -17,7 +17,7 @@ use Rattle.book.specs.declared.answer.Answer.TheVariants.{Done, Word}
 use Rattle.book.specs.Tables.{Rule, none, some, one_or_more, all}
 use Rattle.book.specs.Book.{Book, book_of, first, step, answer, Allowed, Admits}
 use Rattle.book.specs.Calling.{Called}
-use Rattle.book.specs.Runs.{Moment, moment, calls_of, answers_of, after, Follows, Entry, ledger, blank, joined, mode_by, total, Quiet, locked_writes, NoneUnlocks, all_heard}
+use Rattle.book.specs.Runs.{Moment, moment, calls_of, answers_of, after, Follows, Entry, ledger, no_entries, joining_entries, mode_by, total, Quiet, locked_writes, NoneUnlocks, all_heard}
 
 -- WHERE A BYTE COMES FROM
 
@@ -48,14 +48,14 @@ abbrev pub ReadsAreNewest : State → List Moment → Type 0
 ReadsAreNewest start run =
     (before later : List Moment) (m : Moment) (a v : ℕ) (lane : Lane) → run ≡ before ++ (m ∷ later)
     → (m.call ≡ Read a) ⊎ (m.call ≡ LockedRead a) → m.answer ≡ Ok (Word v)
-    → let l = ledger start.protected blank before in Comes lane a l.waiting l.settled ((seen start).word a) (byte lane v)
+    → let l = ledger start.protected no_entries before in Comes lane a l.waiting l.settled ((seen start).word a) (byte lane v)
 
 -- A master's read that was answered by a word: each byte is of the last write that settled, whatever waits.
 abbrev pub MastersReadsAreSettled : State → List Moment → Type 0
 MastersReadsAreSettled start run =
     (before later : List Moment) (m : Moment) (a v : ℕ) (lane : Lane) → run ≡ before ++ (m ∷ later)
     → m.call ≡ MasterRead a → m.answer ≡ Ok (Word v)
-    → let l = ledger start.protected blank before in Comes lane a [] l.settled ((seen start).word a) (byte lane v)
+    → let l = ledger start.protected no_entries before in Comes lane a [] l.settled ((seen start).word a) (byte lane v)
 
 -- ALIKE STARTS
 
@@ -102,17 +102,12 @@ abbrev pub told_at : Call → ℕ
 told_at (Read w) = w
 told_at (Post s) = s.word
 told_at (Unposted s) = s.word
-told_at Advance = 0
-told_at Lock = 0
 told_at (LockedRead w) = w
 told_at (LockedWrite s) = s.word
-told_at Unlock = 0
-told_at Ask = 0
 told_at (MasterRead w) = w
 told_at (MasterWrite s) = s.word
-told_at Give = 0
 told_at (Snoop w) = w
-told_at Flush = 0
+told_at other = 0
 
 -- On a port of this floor, a call that its mode turns away is refused as said, on the board's floor. Any other is, if at all, for its word or
 -- its lanes, on the port's floor, or for a word that cannot be read, on floor 0.
@@ -151,8 +146,8 @@ ALockHolds start run =
 
 -- Of the processor's accepted writes the oldest have settled, in their order, as many as the counts say, and the others wait.
 pub record EachWriteSettlesOnce (start : State) (run : List Moment) : Type 0 where
-  pub once : (ledger start.protected blank run).own ++ (ledger start.protected blank run).waiting ≡ (ledger start.protected blank run).accepted
-  pub many : length (ledger start.protected blank run).own ≡ total run
+  pub once : (ledger start.protected no_entries run).own ++ (ledger start.protected no_entries run).waiting ≡ (ledger start.protected no_entries run).accepted
+  pub many : length (ledger start.protected no_entries run).own ≡ total run
 
 -- How many of the waiting writes settle at a call that is taken.
 abbrev pub settles_at : Call → Rule
@@ -161,20 +156,13 @@ settles_at (Post s) = some
 settles_at (Unposted s) = all
 settles_at Advance = one_or_more
 settles_at Lock = all
-settles_at (LockedRead w) = none
 settles_at (LockedWrite s) = all
-settles_at Unlock = none
-settles_at Ask = none
-settles_at (MasterRead w) = none
-settles_at (MasterWrite s) = none
-settles_at Give = none
-settles_at (Snoop w) = none
-settles_at Flush = none
+settles_at other = none
 
 abbrev pub AsManySettleAsSaid : State → List Moment → Type 0
 AsManySettleAsSaid start run =
     (before later : List Moment) (m : Moment) (r : Answer) → run ≡ before ++ (m ∷ later) → m.answer ≡ Ok r
-    → Admits (settles_at m.call) (length ((ledger start.protected blank before).waiting ++ joined start.protected m)) m.count
+    → Admits (settles_at m.call) (length ((ledger start.protected no_entries before).waiting ++ joining_entries start.protected m)) m.count
 
 -- THE CALLS MADE
 

@@ -47,36 +47,14 @@ if_ok (Err fault) xs = []
 
 -- The write that a call brings: the processor's, and the display unit's.
 abbrev pub own_write : Call → List Store
-own_write (Read w) = []
 own_write (Post s) = s ∷ []
 own_write (Unposted s) = s ∷ []
-own_write Advance = []
-own_write Lock = []
-own_write (LockedRead w) = []
 own_write (LockedWrite s) = s ∷ []
-own_write Unlock = []
-own_write Ask = []
-own_write (MasterRead w) = []
-own_write (MasterWrite s) = []
-own_write Give = []
-own_write (Snoop w) = []
-own_write Flush = []
+own_write other = []
 
 abbrev pub masters_write : Call → List Store
-masters_write (Read w) = []
-masters_write (Post s) = []
-masters_write (Unposted s) = []
-masters_write Advance = []
-masters_write Lock = []
-masters_write (LockedRead w) = []
-masters_write (LockedWrite s) = []
-masters_write Unlock = []
-masters_write Ask = []
-masters_write (MasterRead w) = []
 masters_write (MasterWrite s) = s ∷ []
-masters_write Give = []
-masters_write (Snoop w) = []
-masters_write Flush = []
+masters_write other = []
 
 -- A write, and whether its line was protected when it was taken.
 pub record Entry : Type 0 where
@@ -100,21 +78,21 @@ pub record Ledger : Type 0 where
   -- the processor's accepted writes, in the order of their calls
   pub accepted : List Entry
 
-abbrev pub blank : Ledger
-blank = record { waiting = []; settled = []; own = []; accepted = [] }
+abbrev pub no_entries : Ledger
+no_entries = record { waiting = []; settled = []; own = []; accepted = [] }
 
-abbrev pub joined : (ℕ → Bool) → Moment → List Entry
-joined p m = marked p (if_ok m.answer (own_write m.call))
+abbrev pub joining_entries : (ℕ → Bool) → Moment → List Entry
+joining_entries p m = marked p (if_ok m.answer (own_write m.call))
 
-abbrev pub passed : (ℕ → Bool) → Moment → List Entry
-passed p m = marked p (if_ok m.answer (masters_write m.call))
+abbrev pub masters_entries : (ℕ → Bool) → Moment → List Entry
+masters_entries p m = marked p (if_ok m.answer (masters_write m.call))
 
 abbrev pub entered : (ℕ → Bool) → Ledger → Moment → Ledger
 entered p l m = record {
-  waiting = drop m.count (l.waiting ++ joined p m);
-  settled = l.settled ++ (passed p m ++ take m.count (l.waiting ++ joined p m));
-  own = l.own ++ take m.count (l.waiting ++ joined p m);
-  accepted = l.accepted ++ joined p m;
+  waiting = drop m.count (l.waiting ++ joining_entries p m);
+  settled = l.settled ++ (masters_entries p m ++ take m.count (l.waiting ++ joining_entries p m));
+  own = l.own ++ take m.count (l.waiting ++ joining_entries p m);
+  accepted = l.accepted ++ joining_entries p m;
 }
 
 abbrev pub ledger : (ℕ → Bool) → Ledger → List Moment → Ledger
@@ -132,20 +110,8 @@ Quiet (m ∷ ms) = (if_ok m.answer (masters_write m.call) ≡ []) × Quiet ms
 
 -- The writes of the lock's holder: locked-writes that were answered as done.
 abbrev pub locked_write : Call → List Store
-locked_write (Read w) = []
-locked_write (Post s) = []
-locked_write (Unposted s) = []
-locked_write Advance = []
-locked_write Lock = []
-locked_write (LockedRead w) = []
 locked_write (LockedWrite s) = s ∷ []
-locked_write Unlock = []
-locked_write Ask = []
-locked_write (MasterRead w) = []
-locked_write (MasterWrite s) = []
-locked_write Give = []
-locked_write (Snoop w) = []
-locked_write Flush = []
+locked_write other = []
 
 abbrev pub locked_writes : List Moment → List Store
 locked_writes [] = []
@@ -159,20 +125,11 @@ NoneUnlocks (m ∷ ms) = (m.call ≡ Unlock → m.answer ≢ Ok Done) × NoneUnl
 -- THE MODE, read off the answers
 
 abbrev pub leads_to : Mode → Call → Mode
-leads_to n (Read w) = n
-leads_to n (Post s) = n
-leads_to n (Unposted s) = n
-leads_to n Advance = n
 leads_to n Lock = Locked
-leads_to n (LockedRead w) = n
-leads_to n (LockedWrite s) = n
 leads_to n Unlock = Free
 leads_to n Ask = Granted
-leads_to n (MasterRead w) = n
-leads_to n (MasterWrite s) = n
 leads_to n Give = Free
-leads_to n (Snoop w) = n
-leads_to n Flush = n
+leads_to n other = n
 
 abbrev pub moved : Mode → Call → Result Answer Fault → Mode
 moved n c (Ok a) = leads_to n c

@@ -168,7 +168,7 @@ caching_is_lawful = record {
   writes_touch = λ v t w r. write_spares (ready_turn v t (line_of w.word)).tables w;
   snoops_forget = λ v t w r. gone v t (line_of w);
   outsides_forget = λ v t w r. gone v t (line_of w.word);
-  flushes_forget = record { lines = λ line. refl; marks = λ i. refl; fill = refl };
+  flushes_forget = record { lines = λ line. refl; lru = λ i. refl; fill = refl };
   buffered_leaves_all = buffered_leaves_all;
   hits_only_touch = hits_only_touch;
   late_hits_touch = late_hits_touch;

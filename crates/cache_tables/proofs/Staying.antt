@@ -179,11 +179,11 @@ same_lines d w k (Some y) line = by_mark y.protect
     by_mark false = change_moves_none d w.word k (changed_word w y) line
 
 -- nor does it mark a set
-same_marks : (d : Dir) (w : Store) (k : WayNumber) (o : Option Way) → (changed_way d w k o).marks ≡ d.lru
-same_marks d w k None = refl
-same_marks d w k (Some y) = by_mark y.protect
+same_lru : (d : Dir) (w : Store) (k : WayNumber) (o : Option Way) → (changed_way d w k o).lru ≡ d.lru
+same_lru d w k None = refl
+same_lru d w k (Some y) = by_mark y.protect
   where
-    by_mark : (p : Bool) → (if p then d else changed d w.word k (changed_word w y)).marks ≡ d.lru
+    by_mark : (p : Bool) → (if p then d else changed d w.word k (changed_word w y)).lru ≡ d.lru
     by_mark true = refl
     by_mark false = refl
 
@@ -221,7 +221,7 @@ module _ (v : Shown) (t : Model) (w : Store) (r : Result (Unit {0}) Fault) (c : 
           let F : Dir → Type 0 = λ d. WayIsTouched t.dir d line k in
           let new = changed_way t.dir w k (t.dir.way (set_of line) k) in
           let same : (write_turn v t w r).tables.dir ≡ touched new (set_of line) k = ap (λ (m : Model). m.dir) after ∙ ap (changed_of t.dir w) e in
-          subst F (sym same) (touch_touches t.dir new line k (same_marks t.dir w k (t.dir.way (set_of line) k)));
+          subst F (sym same) (touch_touches t.dir new line k (same_lru t.dir w k (t.dir.way (set_of line) k)));
       misses = λ e. after ∙ ap (λ (o : Option WayNumber). record { dir = changed_of t.dir w o; fill = t.fill }) e;
       calls = ap (λ (u : Turn). u.calls ++ (writes w r ∷ [])) ready;
     }
@@ -272,7 +272,7 @@ module _ (v : Shown) (t : Model) (w : Store) (r : Result (Unit {0}) Fault) (c : 
           let F : Dir → Type 0 = λ d. WayIsTouched t.dir d b.line b.way in
           let same : (write_turn v t w r).tables.dir ≡ touched new (set_of b.line) b.way =
           ap (λ (m : Model). m.dir) has_landed ∙ ap (changed_of landed w) found_there ∙ ap (λ (l : ℕ). touched new (set_of l) b.way) (sym at) in
-          subst F (sym same) (touch_again t.dir new b.line b.way (same_marks landed w b.way (landed.way (set_of line) b.way)))
+          subst F (sym same) (touch_again t.dir new b.line b.way (same_lru landed w b.way (landed.way (set_of line) b.way)))
 
     pub writes_land : WriteLandsTheLine v t w r b
     writes_land = record {

@@ -79,7 +79,7 @@ pub record AsksForTheWord (v : Shown) (t : Model) (w : ℕ) : Type 0 where
   pub few : length first ≤ lacking t.fill
   pub calls : (read_turn v t w).calls ≡ first ++ (reads w (reading v w) ∷ [])
 
--- The word is then the first of a new fill, and the only one yet, for the way that the marks name at this moment.
+-- The word is then the first of a new fill, and the only one yet, for the way that the LRU bits name at this moment.
 pub record FillBegins (v : Shown) (t : Model) (w : ℕ) : Type 0 where
   pub fill : Fill
   pub under : (read_turn v t w).tables.fill ≡ Some fill
@@ -142,7 +142,7 @@ pub record LineIsGone (before after : Model) (line : ℕ) : Type 0 where
   pub others : (other : ℕ) → other ≢ line → found after.dir other ≡ found before.dir other
   pub lru : after.dir.lru ≡ before.dir.lru
 
--- No line is in any way, no set has a mark, and no fill is under way.
+-- No line is in any way, no LRU bit is set, and no fill is under way.
 pub record AllIsForgotten (t : Model) : Type 0 where
   pub lines : (line : ℕ) → found t.dir line ≡ None
   pub lru : (i : ℕ) → t.dir.lru i ≡ untouched

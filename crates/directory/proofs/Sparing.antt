@@ -6,7 +6,7 @@ use Rattle.directory.specs.declared.lru.WayNumber.{WayNumber}
 use Rattle.directory.specs.declared.lru.WayNumber.TheVariants.{Zero, One, Two, Three}
 use Rattle.directory.specs.Touch.{same_way, touched_bits, victim_of}
 use Rattle.directory.specs.Dirs.{Dir, set_of, touched}
-use Rattle.directory.specs.Laws.{TouchedWayIsSpared, victims, VictimsGoRound, TouchMarksItsPair, EachTouchMarksItsPair, WayIsTouched}
+use Rattle.directory.specs.Laws.{TouchedWayIsSpared, victims, VictimsGoRound, TouchSetsItsPair, EachTouchSetsItsPair, WayIsTouched}
 
 neither : (b : Bool) (x y k : WayNumber) → x ≢ k → y ≢ k → cond b x y ≢ k
 neither true x y k p q = p
@@ -23,11 +23,11 @@ pub touch_spares : (d : Dir) (i : ℕ) (k : WayNumber) → victim_of ((touched d
 touch_spares d i k e =
     touched_is_spared (d.lru i) k (sym (ap victim_of (cond-true (eqb i i) (touched_bits (d.lru i) k) (d.lru i) (eq-eqb i i refl))) ∙ e)
 
-pub touch_marks : EachTouchMarksItsPair
-touch_marks m Zero = record { pair = refl; first = λ h. (refl, refl); second = λ h. absurd (omega arith) }
-touch_marks m One = record { pair = refl; first = λ h. (refl, refl); second = λ h. absurd (omega arith) }
-touch_marks m Two = record { pair = refl; first = λ h. absurd (omega arith); second = λ h. (refl, refl) }
-touch_marks m Three = record { pair = refl; first = λ h. absurd (omega arith); second = λ h. (refl, refl) }
+pub touch_sets : EachTouchSetsItsPair
+touch_sets m Zero = record { pair = refl; first = λ h. (refl, refl); second = λ h. absurd (omega arith) }
+touch_sets m One = record { pair = refl; first = λ h. (refl, refl); second = λ h. absurd (omega arith) }
+touch_sets m Two = record { pair = refl; first = λ h. absurd (omega arith); second = λ h. (refl, refl) }
+touch_sets m Three = record { pair = refl; first = λ h. absurd (omega arith); second = λ h. (refl, refl) }
 
 -- to touch a way twice is to touch it once
 touched_twice : (m : LruBits) (k : WayNumber) → touched_bits (touched_bits m k) k ≡ touched_bits m k
@@ -42,13 +42,13 @@ marks_here d i k = cond-true (eqb i i) (touched_bits (d.lru i) k) (d.lru i) (eq-
 marks_there : (d : Dir) (i j : ℕ) (k : WayNumber) → j ≢ i → (touched d i k).lru j ≡ d.lru j
 marks_there d i j k n = cond-false (eqb j i) (touched_bits (d.lru j) k) (d.lru j) (ne_eqb j i n)
 
--- e has the marks of d
+-- e has the LRU bits of d
 pub touch_touches : (d e : Dir) (line : ℕ) (k : WayNumber) → e.lru ≡ d.lru → WayIsTouched d (touched e (set_of line) k) line k
 touch_touches d e line k same =
     let i = set_of line in
     let once : (touched e i k).lru i ≡ touched_bits (d.lru i) k = marks_here e i k ∙ ap (λ (f : ℕ → LruBits). touched_bits (f i) k) same in
     record {
-      lru = subst (λ (m : LruBits). TouchMarksItsPair (d.lru i) m k) (sym once) (touch_marks (d.lru i) k);
+      lru = subst (λ (m : LruBits). TouchSetsItsPair (d.lru i) m k) (sym once) (touch_sets (d.lru i) k);
       others = λ j n. marks_there e i j k n ∙ ap (λ (f : ℕ → LruBits). f j) same;
     }
 
@@ -59,7 +59,7 @@ touch_again d e line k same =
     let twice : (touched e i k).lru i ≡ touched_bits (d.lru i) k =
     marks_here e i k ∙ ap (λ (f : ℕ → LruBits). touched_bits (f i) k) same ∙ ap (λ (m : LruBits). touched_bits m k) (marks_here d i k) ∙ touched_twice (d.lru i) k in
     record {
-      lru = subst (λ (m : LruBits). TouchMarksItsPair (d.lru i) m k) (sym twice) (touch_marks (d.lru i) k);
+      lru = subst (λ (m : LruBits). TouchSetsItsPair (d.lru i) m k) (sym twice) (touch_sets (d.lru i) k);
       others = λ j n. marks_there e i j k n ∙ ap (λ (f : ℕ → LruBits). f j) same ∙ marks_there d i j k n;
     }
 

@@ -21,18 +21,18 @@ pub record VictimsGoRound : Type 0 where
   pub two : (m : LruBits) (j k : WayNumber) → victim_of (touched_bits (touched_bits m j) k) ≢ j
   pub four : (m : LruBits) (k : WayNumber) → is_some (find (same_way k) (victims 4 m)) ≡ true
 
--- A touch marks the pair of its way, and the way within that pair. The other pair's mark stays.
-pub record TouchMarksItsPair (before after : LruBits) (k : WayNumber) : Type 0 where
+-- A touch sets the bit of the pairs, and the bit of its way within its pair. The other pair's bit stays.
+pub record TouchSetsItsPair (before after : LruBits) (k : WayNumber) : Type 0 where
   pub pair : after.m0 ≡ nat_lt (index_of k) 2
   pub first : index_of k < 2 → (after.m1 ≡ (index_of k == 0)) × (after.m2 ≡ before.m2)
   pub second : 2 ≤ index_of k → (after.m2 ≡ (index_of k == 2)) × (after.m1 ≡ before.m1)
 
-abbrev pub EachTouchMarksItsPair : Type 0
-EachTouchMarksItsPair = (m : LruBits) (k : WayNumber) → TouchMarksItsPair m (touched_bits m k) k
+abbrev pub EachTouchSetsItsPair : Type 0
+EachTouchSetsItsPair = (m : LruBits) (k : WayNumber) → TouchSetsItsPair m (touched_bits m k) k
 
--- Of the marks of a directory, those of the line's set are as after a touch of way k, and the others stay.
+-- Of the LRU bits of a directory, those of the line's set are as after a touch of way k, and the others stay.
 pub record WayIsTouched (before after : Dir) (line : ℕ) (k : WayNumber) : Type 0 where
-  pub lru : TouchMarksItsPair (before.lru (set_of line)) (after.lru (set_of line)) k
+  pub lru : TouchSetsItsPair (before.lru (set_of line)) (after.lru (set_of line)) k
   pub others : (i : ℕ) → i ≢ set_of line → after.lru i ≡ before.lru i
 
 -- No two valid ways of a set have the same tag.

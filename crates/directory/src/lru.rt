@@ -2,7 +2,7 @@
 ghost use Rattle.std.specs.Prelude.{◌≡◌, ℕ, ◌<◌};
 ghost use Rattle.std.specs.Result.{result_ok};
 ghost use Rattle.directory.specs.Touch.{way_numbered, number_of, touched_bits, victim_of};
-ghost use Rattle.directory.specs.Laws.{TouchedWayIsSpared, EachTouchMarksItsPair, VictimsGoRound};
+ghost use Rattle.directory.specs.Laws.{TouchedWayIsSpared, EachTouchSetsItsPair, VictimsGoRound};
 
 /// One of the four ways of a set.
 #[derive(Clone, Copy, Debug, PartialEq)]
@@ -127,11 +127,11 @@ impl LruBits {
     }
 
     /// The bits once the way has been touched.
-    #[tactic(auto, using(crate::proofs::Sparing::touch_marks))]
+    #[tactic(auto, using(crate::proofs::Sparing::touch_sets))]
     pub fn touched(self, way: WayNumber) -> LruBits
         ensures value { result ≡ touched_bits self way }
         ensures law { TouchedWayIsSpared }
-        ensures pair { EachTouchMarksItsPair }
+        ensures pair { EachTouchSetsItsPair }
     {
         TOUCHED[self.number()][way as usize]
     }

@@ -23,7 +23,7 @@ use Rattle.cache_tables.proofs.Changing.{found_only}
 use Rattle.cache_tables.proofs.Staying.{read_hit, read_missed}
 use Rattle.cache_tables.proofs.Lawful.{finishes}
 use Rattle.directory_walk.proofs.Counting.{one_if, put_count, none_valid}
-use Rattle.directory_walk.specs.Finds.{filled_at, filled, all_filled, Kept, NoneDisplaces, puts, displaces, tally, Among, TheFilledLinesStand}
+use Rattle.directory_walk.specs.Finds.{filled_at, filled, all_filled, CanBeKept, NoneDisplaces, puts, displaces, tally, Among, TheFilledLinesStand}
 
 ones_zero : ones 0 ≡ 0
 unfolding ones ones_in
@@ -41,7 +41,7 @@ module _ (v : Shown) (d : Dir) (w : ℕ) (c : Coherent v (idle d)) (inside : w <
 
   module _ (none : found d line ≡ None) where
     abbrev way : WayNumber
-    way = victim_of (d.marks (set_of line))
+    way = victim_of (d.lru (set_of line))
 
     abbrev kept : Dir
     kept = installed d line way (v.protected line) (line_seen v line)
@@ -97,9 +97,9 @@ module _ (v : Shown) (d : Dir) (c : Coherent v (idle d)) (w : ℕ) where
       l : ℕ
       l = line_of w
 
-      by_test : w < v.words → found d l ≡ None → (x : Bool) → (v.cacheable l && whole v l) ≡ x → Coherent v (idle (cond x (installed d l (victim_of (d.marks (set_of l))) (v.protected l) (line_seen v l)) d))
+      by_test : w < v.words → found d l ≡ None → (x : Bool) → (v.cacheable l && whole v l) ≡ x → Coherent v (idle (cond x (installed d l (victim_of (d.lru (set_of l))) (v.protected l) (line_seen v l)) d))
       by_test inside none true e =
-          install v d None l (victim_of (d.marks (set_of l))) (v.protected l) (line_seen v l) c none
+          install v d None l (victim_of (d.lru (set_of l))) (v.protected l) (line_seen v l) c none
           (kept_line v l (v.protected l) (line_seen v l) (line_inside w v.words inside c.lined) refl refl (and_parts (v.cacheable l) (whole v l) e).1)
       by_test inside none false e = c
 
@@ -122,7 +122,7 @@ all_append v d (x ∷ xs) ys = all_append v (filled v d x) xs ys
 -- ---- a line that can be kept is placed
 
 module _ (v : Shown) (d : Dir) (c : Coherent v (idle d)) (w : ℕ) where
-  place : Kept v w → (k : WayNumber) × (found (filled v d w) (line_of w) ≡ Some k)
+  place : CanBeKept v w → (k : WayNumber) × (found (filled v d w) (line_of w) ≡ Some k)
   place h = by_answer (found d l) refl
     where
       l : ℕ
@@ -134,7 +134,7 @@ module _ (v : Shown) (d : Dir) (c : Coherent v (idle d)) (w : ℕ) where
       by_answer : (o : Option WayNumber) → found d l ≡ o → (k : WayNumber) × (found (filled v d w) l ≡ Some k)
       by_answer (Some k) e = (k, ap (λ (x : Dir). found x l) in_range ∙ ap (λ (o : Option WayNumber). found (filled_at v d l o) l) e ∙ e)
       by_answer None e =
-          let k = victim_of (d.marks (set_of l)) in
+          let k = victim_of (d.lru (set_of l)) in
           let keep : (v.cacheable l && whole v l) ≡ true = and_from (v.cacheable l) (whole v l) h.cached h.legible in
           let put = installed d l k (v.protected l) (line_seen v l) in (
             k,
@@ -143,15 +143,15 @@ module _ (v : Shown) (d : Dir) (c : Coherent v (idle d)) (w : ℕ) where
           )
 
   -- and what is found stays there, unless it is displaced
-  stay : (line : ℕ) (k : WayNumber) → found d line ≡ Some k → (found d (line_of w) ≡ None → set_of line ≡ set_of (line_of w) → k ≢ victim_of (d.marks (set_of (line_of w)))) →
+  stay : (line : ℕ) (k : WayNumber) → found d line ≡ Some k → (found d (line_of w) ≡ None → set_of line ≡ set_of (line_of w) → k ≢ victim_of (d.lru (set_of (line_of w)))) →
       found (filled v d w) line ≡ Some k
   stay line k is spared = by_range (ltb w v.words)
     where
       l : ℕ
       l = line_of w
 
-      by_test : found d l ≡ None → (x : Bool) → found (cond x (installed d l (victim_of (d.marks (set_of l))) (v.protected l) (line_seen v l)) d) line ≡ Some k
-      by_test e true = (install_keeps d l (victim_of (d.marks (set_of l))) (v.protected l) (line_seen v l) c.apart e).others line k is (spared e)
+      by_test : found d l ≡ None → (x : Bool) → found (cond x (installed d l (victim_of (d.lru (set_of l))) (v.protected l) (line_seen v l)) d) line ≡ Some k
+      by_test e true = (install_keeps d l (victim_of (d.lru (set_of l))) (v.protected l) (line_seen v l) c.apart e).others line k is (spared e)
       by_test e false = is
 
       by_answer : (o : Option WayNumber) → found d l ≡ o → found (filled_at v d l o) line ≡ Some k
@@ -172,15 +172,15 @@ module _ (v : Shown) (Q : ℕ → Type 0) where
   abbrev AllOf : Dir → Type 0
   AllOf d = (i : ℕ) (k : WayNumber) (y : Way) → d.way i k ≡ Some y → Q (line_in i y)
 
-  fill_of : (d : Dir) (w : ℕ) → (Kept v w → Q (line_of w)) → AllOf d → AllOf (filled v d w)
+  fill_of : (d : Dir) (w : ℕ) → (CanBeKept v w → Q (line_of w)) → AllOf d → AllOf (filled v d w)
   fill_of d w new a = by_range (ltb w v.words) refl
     where
       l : ℕ
       l = line_of w
 
-      by_tests : w < v.words → (x y : Bool) → v.cacheable l ≡ x → whole v l ≡ y → AllOf (cond (x && y) (installed d l (victim_of (d.marks (set_of l))) (v.protected l) (line_seen v l)) d)
+      by_tests : w < v.words → (x y : Bool) → v.cacheable l ≡ x → whole v l ≡ y → AllOf (cond (x && y) (installed d l (victim_of (d.lru (set_of l))) (v.protected l) (line_seen v l)) d)
       by_tests inside true true ex ey =
-          ways_put (λ i y. Q (line_in i y)) d (set_of l) (victim_of (d.marks (set_of l))) (Some (filled_way (tag_of l) (v.protected l) (line_seen v l))) (λ j m y _. a j m y)
+          ways_put (λ i y. Q (line_in i y)) d (set_of l) (victim_of (d.lru (set_of l))) (Some (filled_way (tag_of l) (v.protected l) (line_seen v l))) (λ j m y _. a j m y)
           (λ y e. given (λ (z : Way). Q (line_in (set_of l) z)) (filled_way (tag_of l) (v.protected l) (line_seen v l)) y e
           (subst Q (sym (line_set l)) (new (record { inside = inside; cached = ex; legible = ey }))))
       by_tests inside true false ex ey = a
@@ -194,7 +194,7 @@ module _ (v : Shown) (Q : ℕ → Type 0) where
       by_range true e = by_answer (ltb-true w v.words e) (found d l)
       by_range false e = a
 
-  all_of : (d : Dir) (ws : List ℕ) → ((w : ℕ) → Among w ws → Kept v w → Q (line_of w)) → AllOf d → AllOf (all_filled v d ws)
+  all_of : (d : Dir) (ws : List ℕ) → ((w : ℕ) → Among w ws → CanBeKept v w → Q (line_of w)) → AllOf d → AllOf (all_filled v d ws)
   all_of d [] new a = a
   all_of d (w ∷ ws) new a = all_of (filled v d w) ws (λ x m. new x (inr m)) (fill_of d w (new w (inl refl)) a)
 
@@ -207,7 +207,7 @@ fill_counts v d w = by_range (ltb w v.words)
     l = line_of w
 
     k : WayNumber
-    k = victim_of (d.marks (set_of l))
+    k = victim_of (d.lru (set_of l))
 
     held : Bool
     held = is_some (d.way (set_of l) k)
@@ -238,7 +238,7 @@ all_count v d (w ∷ ws) =
 pub record Source (v : Shown) (words : List ℕ) (line : ℕ) : Type 0 where
   pub word : ℕ
   pub among : Among word words
-  pub kept : Kept v word
+  pub kept : CanBeKept v word
   pub same : line_of word ≡ line
 
 pub they_stand : (v : Shown) (words : List ℕ) → Coherent v (idle emptied) → TheFilledLinesStand v words (all_filled v emptied words)

@@ -4,6 +4,7 @@
 use banks::{Line, RamBank};
 use cache::Cache;
 use port::Port;
+use printed::Printed;
 use replay::{Row, replay};
 use std::io;
 use write_buffer::WriteBuffer;
@@ -24,8 +25,8 @@ fn replay_on<P: Port + Drop>(
 ) -> io::Result<()> {
     let told = replay(rt.alloc(), Cache::new(WriteBuffer::new(memory)), clears)?;
     println!(rt; "{title}")?;
-    for (call, answer) in told.calls.iter().zip(told.answers.iter()) {
-        println!(rt; "  {call:?}: {answer:?}")?;
+    for (number, (call, answer)) in (1u64..).zip(told.calls.iter().zip(told.answers.iter())) {
+        rt.println(Printed::Answered(number, *call, *answer))?;
     }
     print_row(rt, "row before", told.before)?;
     print_row(rt, "row after", told.after)

@@ -6,6 +6,7 @@ use board::compare;
 use cache::Cache;
 use calls::Call;
 use port::{Port, Store};
+use printed::AnswerText;
 use std::alloc::{AllocError, Global};
 use std::io;
 use write_buffer::WriteBuffer;
@@ -66,12 +67,11 @@ fn try_pair<P: Port + Drop, Q: Port + Drop>(
     calls: &[Call],
 ) -> io::Result<()> {
     let (first, second) = compare(rt.alloc(), one, other, calls)?;
-    for ((call, one), other) in calls
-        .iter()
-        .zip(first.answers.iter())
-        .zip(second.answers.iter())
-    {
-        println!(rt; "    {call:?}: {one:?} and {other:?}")?;
+    let answers = first.answers.iter().zip(second.answers.iter());
+    for (number, (call, (one, other))) in (1u64..).zip(calls.iter().zip(answers)) {
+        let one = AnswerText(*one);
+        let other = AnswerText(*other);
+        println!(rt; "{number} {call} {one} and {other}")?;
     }
     Ok(())
 }
