@@ -100,12 +100,12 @@ impl<P: Port> Board<P> {
     }
 
     // The answer to a call that the mode turns down.
-    fn refuse(&self, refusal: Refusal, place: u32) -> Result<Answer, Fault>
-        ensures { result ≡ Err (record { refusal = refusal; place = place; floor = floor_above (P.state self.now.port).facts.floor }) }
+    fn refuse(&self, refusal: Refusal, call: Call) -> Result<Answer, Fault>
+        ensures { result ≡ Err (record { refusal = refusal; place = place_in (cargo_of call); floor = floor_above (P.state self.now.port).facts.floor }) }
     {
         Err(Fault {
             refusal,
-            place,
+            place: place_of(call),
             floor: self.floor(),
         })
     }
@@ -114,7 +114,6 @@ impl<P: Port> Board<P> {
     pub fn call(&mut self, call: Call) -> Result<Answer, Fault>
         ensures called { Called P.Port self.old.mode self.old.port call result self.new.mode self.new.port }
     {
-        let place = place_of(call);
         // The mode and the call together decide: a row for each that is taken, and then the refusals.
         match (call, self.mode) {
             (Call::Read(word), Mode::Free | Mode::Granted) => self
@@ -164,14 +163,14 @@ impl<P: Port> Board<P> {
             }
             (Call::LockedRead(_) | Call::LockedWrite(_) | Call::Unlock, _) => self.refuse(
                 Refusal::NotLocked,
-                place,
+                call,
             ),
             (Call::MasterRead(_) | Call::MasterWrite(_) | Call::Give, _) => self.refuse(
                 Refusal::NotGranted,
-                place,
+                call,
             ),
-            (_, Mode::Locked) => self.refuse(Refusal::Locked, place),
-            _ => self.refuse(Refusal::Granted, place),
+            (_, Mode::Locked) => self.refuse(Refusal::Locked, call),
+            _ => self.refuse(Refusal::Granted, call),
         }
     }
 

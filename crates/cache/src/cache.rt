@@ -45,14 +45,15 @@ impl<P: Port> Cache<P> {
 
     // Each of these four says what it did below and to the tables; that some writes may have settled below is one clause of each.
 
-    // Fetches the next word of the line under fill, if there is one.
+    // Fetches the next word of the line under fill, if there is one. A miss does this up to seven times.
+    #[inline(always)]
     fn fetch_one(&mut self)
         ensures after { Settles (P.state self.old.below) (P.state self.new.below) }
         ensures did { TakesTurn (fetch_turn (shows_below self.old) (tables_of self.old)) self.old self.new }
     {
         if let Some(fill) = self.tables.fill {
             match self.below.read(fill.next_word()) {
-                Ok(value) => self.tables.stow(fill, value),
+                Ok(value) => self.tables.stow(value),
                 Err(_) => self.tables.fill = None,
             }
         }

@@ -1,12 +1,11 @@
 -- What the tables answer and become, as the code computes it.
-use Rattle.std.proofs.Common.{◌≡◌, ℕ, Bool, true, false, if◌then◌else◌, get_or, Some, None, Option, sym, refl, ap, ◌∙◌}
-use Rattle.std.specs.Option.{option_map}
+use Rattle.std.proofs.Common.{◌≡◌, ℕ, Bool, true, false, if◌then◌else◌, Some, None, Option, sym, refl, ap, ◌∙◌}
 use Rattle.port.specs.declared.Store.{Store}
 use Rattle.directory.specs.declared.lru.WayNumber.{WayNumber}
 use Rattle.directory.specs.declared.sets.Way.{Way}
 use Rattle.directory.specs.declared.fills.Fill.{Fill}
 use Rattle.directory.specs.Dirs.{Dir, set_of, found, touched, changed}
-use Rattle.port.specs.Memory.{line_of, offset_of}
+use Rattle.port.specs.Memory.{line_of}
 use Rattle.cache_tables.specs.Rules.{Model, hit_of, hit, changed_way, changed_of, changed_word, written}
 
 module _ (w : Store) (k : WayNumber) where
@@ -51,9 +50,5 @@ shut_kept e w k (Some x) h = by_protect x.protect h
     by_protect false h = absurd (cc)
 
 -- the way that was looked up answers, once it is touched
-pub hit_value : (d e : Dir) (w : ℕ) (k : WayNumber) (o : Option Way) (r : Option ℕ) → Some k ≡ found d (line_of w) → e ≡ touched d (set_of (line_of w)) k → o ≡ e.way (set_of (line_of w)) k →
-    r ≡ option_map (λ y. get_or y.words (offset_of w) 0) o → r ≡ hit d w
-hit_value d e w k o r is touch way value =
-    value
-    ∙ ap (option_map (λ (y : Way). get_or y.words (offset_of w) 0)) (way ∙ ap (λ (z : Dir). z.way (set_of (line_of w)) k) touch)
-    ∙ ap (hit_of d w) is
+pub hit_value : (d e : Dir) (w : ℕ) (k : WayNumber) (r : Option ℕ) → Some k ≡ found d (line_of w) → e ≡ touched d (set_of (line_of w)) k → r ≡ hit_of e w (Some k) → r ≡ hit d w
+hit_value d e w k r is touch value = value ∙ ap (λ (z : Dir). hit_of z w (Some k)) touch ∙ ap (hit_of d w) is

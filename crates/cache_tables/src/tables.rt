@@ -2,6 +2,7 @@
 ghost use Rattle.std.specs.Prelude.{◌≡◌, is_some, Some, None};
 ghost use Rattle.directory.specs.Dirs.{found};
 ghost use Rattle.directory.specs.Ticks.{with_word, UnderWay};
+ghost use Rattle.directory.specs.declared.fills.Fill.{Fill};
 ghost use Rattle.cache_tables.specs.Rules.{model, stowed, buffered_of, hit, touched_by, begun_fill, dropped, cleared, fills_open, written};
 
 use directory::{Directory, Fill};
@@ -44,22 +45,23 @@ impl Tables {
     pub fn buffered(&self, word: u32) -> Option<u16>
         ensures { result ≡ buffered_of self.now.fill word }
     {
-        self.fill.and_then(|fill| fill.fetched(word))
+        self.fill.as_ref().and_then(|fill| fill.fetched(word))
     }
 
     /// Takes the next word of the line under fill; the eighth completes the line.
-    pub fn stow(&mut self, mut fill: Fill, value: u16)
-        requires under { UnderWay fill }
-        requires absent { found (model self.old).dir fill.line ≡ None }
-        ensures { model self.new ≡ stowed (model self.old).dir (with_word fill value) }
+    pub fn stow(&mut self, value: u16)
+        requires under { (b : Fill) → self.old.fill ≡ Some b → UnderWay b }
+        requires absent { (b : Fill) → self.old.fill ≡ Some b → found (model self.old).dir b.line ≡ None }
+        ensures after { (b : Fill) → self.old.fill ≡ Some b → model self.new ≡ stowed (model self.old).dir (with_word b value) }
+        ensures idle { self.old.fill ≡ None → self.new ≡ self.old }
     {
-        fill.store(value);
-        if fill.is_complete() {
-            self.directory
-                .install(fill.line, fill.way, fill.protect, fill.words);
-            self.fill = None;
-        } else {
-            self.fill = Some(fill);
+        if let Some(fill) = &mut self.fill {
+            fill.store(value);
+            if fill.is_complete() {
+                self.directory
+                    .install(fill.line, fill.way, fill.protect, fill.words);
+                self.fill = None;
+            }
         }
     }
 
@@ -81,12 +83,12 @@ impl Tables {
     {
         let number = self.directory.lookup(word / 8)?;
         self.directory.touch(word / 8, number);
-        self.directory
-            .way(word / 8, number)
-            .map(|way| way.words[(word % 8) as usize])
+        self.directory.word(word, number)
     }
 
     /// Changes the lanes of the write where a way holds its line; that way is touched, and a protected one is not changed.
+    // A cache does this for every write.
+    #[inline(always)]
     pub fn change(&mut self, write: Store)
         ensures { model self.new ≡ written (model self.old) write }
     {

@@ -1,5 +1,5 @@
 //! One set of the directory: four ways and three LRU bits.
-ghost use Rattle.std.specs.Prelude.{◌≡◌, ℕ, ◌≤◌, length, Some, None, find, is_some, count_by};
+ghost use Rattle.std.specs.Prelude.{◌≡◌, ℕ, ◌≤◌, length, Some, None, find, is_some, count_by, slice_index};
 ghost use Rattle.std.specs.Option.{option_map};
 ghost use Rattle.directory.specs.Touch.{every_way};
 ghost use Rattle.port.specs.Memory.{offset_of};
@@ -69,6 +69,15 @@ impl SetRecord {
         ensures { result ≡ way_in self.now way }
     {
         self.ways[way as usize]
+    }
+
+    /// A word of the line in the way, if that is valid.
+    pub fn word(&self, way: WayNumber, word: u32) -> Option<u16>
+        ensures { result ≡ option_map (λ w. slice_index w.words (offset_of word)) (way_in self.now way) }
+    {
+        self.ways[way as usize]
+            .as_ref()
+            .map(|line| line.words[(word % 8) as usize])
     }
 
     /// The first valid way that has the tag.

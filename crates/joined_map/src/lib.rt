@@ -125,6 +125,7 @@ impl<L: Port, H: Port> Port for JoinedMap<L, H> {
         }
     }
 
+    #[inline]
     fn write(&mut self, write: Store) -> Result<(), Fault> {
         check_write(write, self.words(), self.floor())?;
         let split = self.split;
@@ -151,6 +152,7 @@ impl<L: Port, H: Port> Port for JoinedMap<L, H> {
         }
     }
 
+    #[inline]
     fn outside_write(&mut self, write: Store) -> Result<(), Fault> {
         check_write(write, self.words(), self.floor())?;
         let split = self.split;

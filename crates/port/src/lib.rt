@@ -65,16 +65,19 @@ pub fn check_write(write: Store, end: u32, floor: u8) -> Result<(), Fault>
     ensures value { result ≡ writable write.word write.lanes end floor }
     ensures law { RefusedInOrder }
 {
-    check_range(write.word, end, floor)?;
-    if 1 <= write.lanes && write.lanes <= 3 {
-        Ok(())
+    let refusal = if write.word >= end {
+        Refusal::PastEnd
+    } else if 1 <= write.lanes && write.lanes <= 3 {
+        return Ok(());
     } else {
-        Err(Fault {
-            refusal: Refusal::BadLanes,
-            place: write.word,
-            floor,
-        })
-    }
+        Refusal::BadLanes
+    };
+    // One place for both, so that a write that is taken needs no floor.
+    Err(Fault {
+        refusal,
+        place: write.word,
+        floor,
+    })
 }
 
 /// A memory port. Banks, maps, buffers and caches are ports, and a board stands on any of them.

@@ -68,6 +68,8 @@ impl<P: Port> Port for WriteBuffer<P> {
         self.below.waiting().saturating_add(self.queue.waiting())
     }
 
+    // A cache reads every word of a fill here.
+    #[inline(always)]
     fn read(&mut self, word: u32) -> Result<u16, Fault> {
         check_above(&self.below, word)?;
         send_all(&mut self.below, &mut self.queue);

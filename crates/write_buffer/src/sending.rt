@@ -10,7 +10,8 @@ ghost use Rattle.write_buffer.specs.Buffering.{sends, SendsOn};
 use super::queue::Queue;
 use port::{Port, Store};
 
-// Sends a write to a port that takes it.
+// Sends a write to a port that takes it. Apart, so that the code for a write below stands once, and makes no refusal.
+#[inline(never)]
 pub(crate) fn send<P: Port>(below: &mut P, write: Store)
     requires taken { write_answer (P.state below.old) write ≡ Ok tt }
     ensures after { Settles (posted (write ∷ []) (P.state below.old)) (P.state below.new) }

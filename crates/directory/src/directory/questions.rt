@@ -1,5 +1,7 @@
 //! What the directory can be asked.
-ghost use Rattle.std.specs.Prelude.{◌≡◌, ℕ, ◌<◌, ◌≤◌};
+ghost use Rattle.std.specs.Prelude.{◌≡◌, ℕ, ◌<◌, ◌≤◌, slice_index};
+ghost use Rattle.std.specs.Option.{option_map};
+ghost use Rattle.port.specs.Memory.{line_of, offset_of};
 ghost use Rattle.directory.specs.Touch.{victim_of};
 ghost use Rattle.directory.specs.Dirs.{found, set_of, valid_ways};
 ghost use Rattle.directory.specs.View.{view, inspected};
@@ -33,6 +35,13 @@ impl Directory {
         ensures { result ≡ (view self.now).way (set_of line) way }
     {
         self.sets[set_of(line)].way(way)
+    }
+
+    /// The word in a way of its line's set, if that way is valid.
+    pub fn word(&self, word: u32, way: WayNumber) -> Option<u16>
+        ensures { result ≡ option_map (λ w. slice_index w.words (offset_of word)) ((view self.now).way (set_of (line_of word)) way) }
+    {
+        self.sets[set_of(word / 8)].word(way, word)
     }
 
     /// The way that the next line of this line's set replaces.

@@ -12,7 +12,7 @@ invariant_of-self g c =
     let s = g.P.Port.state c.args.self.now.below in
     let m = model c.args.self.now.tables in
     let kept = c.args.self.now.coherent in
-    record { coherent = fetch_kept s _ m _ c.read.ensures.after kept (word_came s m c.in-Some.fill c.next_word.result c.in-Some.is c.next_word.ensures.value kept c.in-Ok.value _ c.in-Ok.ensures.value c.stow.ensures) }
+    record { coherent = fetch_kept s _ m _ c.read.ensures.after kept (word_came s m c.in-Some.fill c.next_word.result c.in-Some.is c.next_word.ensures.value kept c.in-Ok.value _ c.in-Ok.ensures.value (c.stow.ensures.after c.in-Some.fill c.in-Some.is)) }
 
 pub invariant_of-self-in-Err : goal.invariant_of-self-in-Err
 invariant_of-self-in-Err g c =
@@ -27,7 +27,7 @@ returns-in-Ok-clause-did g c =
     let m = model c.args.self.now.tables in
     let kept = c.args.self.now.coherent in
     record {
-      tables = word_came s m c.in-Some.fill c.next_word.result c.in-Some.is c.next_word.ensures.value kept c.in-Ok.value _ c.in-Ok.ensures.value c.stow.ensures;
+      tables = word_came s m c.in-Some.fill c.next_word.result c.in-Some.is c.next_word.ensures.value kept c.in-Ok.value _ c.in-Ok.ensures.value (c.stow.ensures.after c.in-Some.fill c.in-Some.is);
       below = word_asked s m c.in-Some.fill c.next_word.result c.in-Some.is c.next_word.ensures.value kept c.read.result c.read.ensures.value c.read.ensures.did;
     }
 
