@@ -1,11 +1,11 @@
 -- The bench cards, computed.
 use Rattle.std.proofs.Common.{refl}
 use lib.Count.{ones, ones_in}
-use Rattle.bench.specs.Cards.{BenchCards}
+use Rattle.bench.specs.Cards.{TheBenchCardsHold}
 
-pub bench_cards : BenchCards
+pub the_bench_cards_hold : TheBenchCardsHold
 unfolding ones ones_in
-bench_cards = record {
+the_bench_cards_hold = record {
   word_20003 = refl;
   ways_are_named = λ content. refl;
   ways_are_taken = λ content. refl;

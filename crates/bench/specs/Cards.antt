@@ -97,7 +97,7 @@ overtaken =
     outside (record { word = 2; lanes = 3; value = 0x3333 })
     (posted (record { word = 2; lanes = 1; value = 0x0022 } ∷ []) (settled_at 0x1111))
 
-pub record BenchCards : Type 0 where
+pub record TheBenchCardsHold : Type 0 where
   pub word_20003 : location_of 20003 ≡ record { line = 2500; offset = 3; set = 196; tag = 9 }
   -- five lines of a set are filled one after another from a flush on: each goes into the way named at its miss
   pub ways_are_named : (content : ℕ → ℕ) → ways_named content flushed five_lines ≡ Some Zero ∷ Some Two ∷ Some One ∷ Some Three ∷ Some Zero ∷ []

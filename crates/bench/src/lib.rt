@@ -3,7 +3,7 @@
 
 ghost use Rattle.std.specs.Prelude.{◌≡◌};
 ghost use Rattle.bench.specs.Locations.{location_of};
-ghost use Rattle.bench.specs.Cards.{BenchCards};
+ghost use Rattle.bench.specs.Cards.{TheBenchCardsHold};
 
 /// Where a word lies.
 #[derive(Clone, Copy, Debug, PartialEq)]
@@ -20,7 +20,7 @@ pub struct Location {
 /// answer for word 20,003.
 pub fn locate(word: u32) -> Location
     ensures value { result ≡ location_of word }
-    ensures cards { BenchCards }
+    ensures cards { TheBenchCardsHold }
 {
     // The operators of the rules, and no call of a stage: the cards stand on definitions alone.
     let line = word / 8;

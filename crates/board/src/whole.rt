@@ -1,6 +1,6 @@
 //! Whole lists of calls, and the promise that they keep.
 ghost use Rattle.std.specs.Prelude.{◌≡◌, ◌<◌, ◌≤◌, length, take, drop, IfOk, MatchResult};
-ghost use Rattle.book.specs.Promise.{NeverAnOldDigit, BothKeep, TheBookIsSound};
+ghost use Rattle.book.specs.Promise.{NeverAnOldDigit, BothKeep, ThePromiseIsNotEmpty};
 
 use super::board::Board;
 use book::Answer;
@@ -24,7 +24,7 @@ pub struct NoRoom<P: Port> {
 
 /// Makes a board on a port and gives it every call of a list. The answers go into the room that the caller lends, one for each call from its start;
 /// what lies past them stays. Where there is less room than there are calls no call is made, and room and port are as they were. No memory is needed.
-#[tactic(auto, using(book::proofs::Running::the_book_is_sound))]
+#[tactic(auto, using(book::proofs::Running::the_promise_is_not_empty))]
 pub fn run_in<P: Port>(
     port: P,
     calls: &[Call],
@@ -34,7 +34,7 @@ pub fn run_in<P: Port>(
     ensures refused { MatchResult result (λ _. length calls.now ≤ length room.old) (λ _. length room.old < length calls.now) }
     ensures beyond { MatchResult result (λ _. drop (length calls.now) room.new ≡ drop (length calls.now) room.old) (λ _. room.new ≡ room.old) }
     ensures size { length room.new ≡ length room.old }
-    ensures law { TheBookIsSound }
+    ensures law { ThePromiseIsNotEmpty }
 {
     if room.len() < calls.len() {
         return Err(NoRoom { port });
@@ -47,10 +47,10 @@ pub fn run_in<P: Port>(
 }
 
 /// Makes a board on a port and gives it every call of a list. Where there is no memory for the answers no call is made, and the port comes back as it was.
-#[tactic(auto, using(book::proofs::Running::the_book_is_sound))]
+#[tactic(auto, using(book::proofs::Running::the_promise_is_not_empty))]
 pub fn run<P: Port>(alloc: Global, port: P, calls: &[Call]) -> Result<Outcome<P>, AllocFailed<P>>
     ensures promise { MatchResult result (λ run. NeverAnOldDigit P.Port port calls.now run.answers.items run.board.mode run.board.port) (λ failed. failed.value ≡ port) }
-    ensures law { TheBookIsSound }
+    ensures law { ThePromiseIsNotEmpty }
 {
     match room_for(alloc, calls) {
         Ok(room) => Ok(run_into(port, calls, room)),
@@ -79,7 +79,7 @@ fn run_into<P: Port>(port: P, calls: &[Call], room: Vec<Result<Answer, Fault>>) 
 
 /// Gives every call of a list to two boards on ports of any kinds, one after the other. Where there is no memory for the answers no call is made, and
 /// both ports come back as they were.
-#[tactic(auto, using(book::proofs::Running::the_book_is_sound))]
+#[tactic(auto, using(book::proofs::Running::the_promise_is_not_empty))]
 pub fn compare<P: Port, Q: Port>(
     alloc: Global,
     one: P,
@@ -87,7 +87,7 @@ pub fn compare<P: Port, Q: Port>(
     calls: &[Call],
 ) -> Result<(Outcome<P>, Outcome<Q>), AllocFailed<(P, Q)>>
     ensures promise { MatchResult result (λ runs. BothKeep P.Port Q.Port one other calls.now runs.0.answers.items runs.1.answers.items runs.0.board.mode runs.1.board.mode runs.0.board.port runs.1.board.port) (λ failed. (failed.value.0 ≡ one) × (failed.value.1 ≡ other)) }
-    ensures law { TheBookIsSound }
+    ensures law { ThePromiseIsNotEmpty }
 {
     let Ok(room) = room_for(alloc, calls) else {
         return Err(AllocFailed {

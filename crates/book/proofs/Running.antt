@@ -19,7 +19,7 @@ use Rattle.book.specs.Tables.{if_locked, in_range, if_taken, posts, masters_writ
 use Rattle.book.specs.Book.{Book, book_of, first, refused, joins, masters, mastered, waiting_line, settle, step, rule, Admits, Allowed, says, unless, told, answer}
 use Rattle.book.specs.Calling.{Called}
 use Rattle.book.specs.Runs.{Moment, moment, calls_of, answers_of, after, Follows, Entry, ledger, no_entries, locked_writes}
-use Rattle.book.specs.Promise.{Comes, ReadsAreNewest, MastersReadsAreSettled, AnsweredIn, AllIn, AnswersKeepTheModes, AsManySettleAsSaid, OnlyTheHolderWrites, ALockHolds, CallsMade, none_made, one_more, NeverAnOldDigit, BothKeep, TheBookIsSound}
+use Rattle.book.specs.Promise.{Comes, ReadsAreNewest, MastersReadsAreSettled, AnsweredIn, AllIn, AnswersKeepTheModes, AsManySettleAsSaid, OnlyTheHolderWrites, ALockHolds, CallsMade, none_made, one_more, NeverAnOldDigit, BothKeep, ThePromiseIsNotEmpty}
 use Rattle.book.proofs.Counts.{settle_none}
 use Rattle.book.proofs.Bytes.{comes, one_source}
 use Rattle.book.proofs.Records.{Tells, tells_run, once, many, front, back}
@@ -267,5 +267,5 @@ refusals_change_nothing b c k fault h e = go (refused b c) refl
     go None f = taken_refused b c k fault f h (ap (λ (x : Option Refusal). told b.state.facts.floor c (unless x (says b.state c))) (sym f) ∙ e)
     go (Some x) f = inl (idle b c k (Some x) f refl refl refl refl h)
 
-pub the_book_is_sound : TheBookIsSound
-the_book_is_sound = record { one_source = one_source; some_run = some_run; refusals_change_nothing = refusals_change_nothing }
+pub the_promise_is_not_empty : ThePromiseIsNotEmpty
+the_promise_is_not_empty = record { one_source = one_source; some_run = some_run; refusals_change_nothing = refusals_change_nothing }

@@ -208,7 +208,7 @@ pub record BothKeep {P Q : Type 0} (G : Ghosts P) (H : Ghosts Q) (p : P) (q : Q)
 
 -- WHAT KEEPS THE PROMISE FROM BEING EMPTY
 
-pub record TheBookIsSound : Type 0 where
+pub record ThePromiseIsNotEmpty : Type 0 where
   -- a byte has one source
   pub one_source : (lane : Lane) (a : ℕ) (waiting settled : List Entry) (content x y : ℕ)
       → Comes lane a waiting settled content x → Comes lane a waiting settled content y → x ≡ y

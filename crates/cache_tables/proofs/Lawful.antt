@@ -16,12 +16,12 @@ use Rattle.directory.proofs.Sparing.{touch_spares}
 use Rattle.cache_tables.specs.Showing.{Shown, reading, line_seen, whole}
 use Rattle.cache_tables.specs.Rules.{Model, turn, idle, stowed, fetched_of, finished_of, finished, finish_calls, finish_turn, lacking, buffered_of, hit, touched_of, touched_by, begun_fill, left_of, begun, read_after, read_turn, dropped, changed_way, changed_of, written, ready_turn}
 use Rattle.cache_tables.specs.Coherence.{Coherent}
-use Rattle.cache_tables.specs.Laws.{NamedAtTheMiss, SameLineAndWay, HolderIsSpared, LineIsGone, fetched_times, CachingIsLawful}
+use Rattle.cache_tables.specs.Laws.{NamedAtTheMiss, SameLineAndWay, HolderIsSpared, LineIsGone, fetched_times, SettlingNeverShows, AnswersAreWhatIsSeen, LinesLandWhereNamed, UsedWaysAreSpared, MastersWritesAreForgotten, HitsOnlyTouch, MissesBeginFills, WritesLandOrOnlyTouch, AdvancesFetchOneWord}
 use Rattle.cache_tables.proofs.Keeping.{fetch_keeps, fetch_finishes}
 use Rattle.cache_tables.proofs.Fetching.{shown_kept, fetch_falls}
 use Rattle.cache_tables.proofs.Reading.{buffered_sees, hit_sees, none_found}
 use Rattle.cache_tables.proofs.Changing.{left_some}
-use Rattle.cache_tables.proofs.Staying.{buffered_leaves_all, hits_only_touch, late_hits_touch, misses_ask_once, misses_else_nothing, misses_fill, same_lines, writes_only_touch, writes_land, advances_fetch_one, advances_else_nothing}
+use Rattle.cache_tables.proofs.Staying.{buffered_leaves_all, held_only_touches, late_hits_touch, misses_ask_once, misses_else_nothing, misses_fill, same_lines, writes_only_touch, writes_land, advances_fetch_one, advances_else_nothing}
 
 named : (v : Shown) (d : Dir) (w : ℕ) (b : Fill) → (begun v d w).fill ≡ Some b → NamedAtTheMiss v d w b
 named v d w b = by_tests (v.readable w) (v.cacheable (line_of w)) refl
@@ -156,27 +156,40 @@ write_spares t w = by_answer (found t.dir (line_of w.word)) refl
         let there : found new (line_of w.word) ≡ found t.dir (line_of w.word) = same_lines t.dir w j (t.dir.way (set_of (line_of w.word)) j) (line_of w.word) in
         touch_spares_it (record { dir = new; fill = t.fill }) w.word (Some j) (there ∙ e) k h
 
-pub caching_is_lawful : CachingIsLawful
-caching_is_lawful = record {
-  unseen = shown_kept;
-  newest = λ v t c. record { buffer = λ w x. buffered_sees v t.dir t.fill w x c.fill; way = λ w x. hit_sees v t w x c };
+-- ---- what a cache promises
+
+pub settling_never_shows : SettlingNeverShows
+settling_never_shows = shown_kept
+
+pub answers_are_what_is_seen : AnswersAreWhatIsSeen
+answers_are_what_is_seen v t c = record { buffer = λ w x. buffered_sees v t.dir t.fill w x c.fill; way = λ w x. hit_sees v t w x c }
+
+pub lines_land_where_named : LinesLandWhereNamed
+lines_land_where_named = record {
   begins = named;
   goes_on = λ v t. goes_on v t.dir t.fill;
   finishes = λ v t c. finishes v (lacking t.fill) t.dir t.fill c (omega arith);
   lands = λ v t b c is. record { word_by_word = lands v t.dir t.fill b c is; at_once = ends_there v t.dir t.fill b c is; torn = ends_torn v t.dir t.fill b is; ends = ends_idle v t.dir t.fill };
-  reads_touch = read_spares;
-  writes_touch = λ v t w r. write_spares (ready_turn v t (line_of w.word)).tables w;
-  snoops_forget = λ v t w r. gone v t (line_of w);
-  outsides_forget = λ v t w r. gone v t (line_of w.word);
-  flushes_forget = record { lines = λ line. refl; lru = λ i. refl; fill = refl };
-  buffered_leaves_all = buffered_leaves_all;
-  hits_only_touch = hits_only_touch;
-  late_hits_touch = late_hits_touch;
-  misses_ask_once = misses_ask_once;
-  misses_else_nothing = misses_else_nothing;
-  misses_fill = misses_fill;
-  writes_only_touch = writes_only_touch;
-  writes_land = λ v t w r b c. writes_land v t w r c b;
-  advances_fetch_one = λ v t. advances_fetch_one v t.dir t.fill;
-  advances_else_nothing = advances_else_nothing;
 }
+
+pub used_ways_are_spared : UsedWaysAreSpared
+used_ways_are_spared = record { reads = read_spares; writes = λ v t w r. write_spares (ready_turn v t (line_of w.word)).tables w }
+
+pub masters_writes_are_forgotten : MastersWritesAreForgotten
+masters_writes_are_forgotten = record {
+  snoops = λ v t w r. gone v t (line_of w);
+  outsides = λ v t w r. gone v t (line_of w.word);
+  flushes = record { lines = λ line. refl; lru = λ i. refl; fill = refl };
+}
+
+pub hits_only_touch : HitsOnlyTouch
+hits_only_touch = record { buffered = buffered_leaves_all; held = held_only_touches; late = late_hits_touch }
+
+pub misses_begin_fills : MissesBeginFills
+misses_begin_fills = record { asks = misses_ask_once; else_nothing = misses_else_nothing; fills = misses_fill }
+
+pub writes_land_or_only_touch : WritesLandOrOnlyTouch
+writes_land_or_only_touch = record { only_touch = writes_only_touch; land = λ v t w r b c. writes_land v t w r c b }
+
+pub advances_fetch_one_word : AdvancesFetchOneWord
+advances_fetch_one_word = record { one = λ v t. advances_fetch_one v t.dir t.fill; else_nothing = advances_else_nothing }

@@ -99,8 +99,8 @@ module _ (v : Shown) (t : Model) (w : ℕ) where
   pub buffered_leaves_all : (x : ℕ) → buffered_of t.fill w ≡ Some x → ReadLeavesAll v t w
   buffered_leaves_all x e = record { tables = ap (λ (u : Turn). u.tables) (read_buffered x e); calls = ap (λ (u : Turn). u.calls) (read_buffered x e) }
 
-  pub hits_only_touch : (k : WayNumber) → buffered_of t.fill w ≡ None → found t.dir (line_of w) ≡ Some k → ReadOnlyTouches v t w k
-  hits_only_touch k b e =
+  pub held_only_touches : (k : WayNumber) → buffered_of t.fill w ≡ None → found t.dir (line_of w) ≡ Some k → ReadOnlyTouches v t w k
+  held_only_touches k b e =
       let same = read_hit b k e in
       let F : Turn → Type 0 = λ u. WayIsTouched t.dir u.tables.dir (line_of w) k in
       record {

@@ -24,7 +24,7 @@ reads100 a = reads a (Ok (100 + a))
 abbrev pub begun_at_two : Shown → Model
 begun_at_two v = (read_turn v cleared 2).tables
 
-pub record WorkedExamples : Type 0 where
+pub record TwoLineExamplesHold : Type 0 where
   -- the miss reads its word below, and the next advance fetches the word beside it
   pub miss : (read_turn legible cleared 2).calls ≡ reads100 2 ∷ []
   pub next : (advance_turn legible (begun_at_two legible)).calls ≡ reads100 3 ∷ advances ∷ []

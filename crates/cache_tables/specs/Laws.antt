@@ -148,30 +148,49 @@ pub record AllIsForgotten (t : Model) : Type 0 where
   pub lru : (i : ℕ) → t.dir.lru i ≡ untouched
   pub fill : t.fill ≡ None
 
-pub record CachingIsLawful : Type 0 where
-  pub unseen : SettlingNeverShows
-  pub newest : (v : Shown) (t : Model) → Coherent v t → AnswersAreSeen v t
+-- WHAT A CACHE PROMISES
+
+-- Whatever the line buffer or a way answers is what is seen below.
+abbrev pub AnswersAreWhatIsSeen : Type 0
+AnswersAreWhatIsSeen = (v : Shown) (t : Model) → Coherent v t → AnswersAreSeen v t
+
+-- The way of a fill is named at its miss and by nothing later, and that way holds the completed line.
+pub record LinesLandWhereNamed : Type 0 where
   pub begins : (v : Shown) (d : Dir) (w : ℕ) (b : Fill) → (begun v d w).fill ≡ Some b → NamedAtTheMiss v d w b
   pub goes_on : (v : Shown) (t : Model) (b c : Fill) → t.fill ≡ Some b → (fetched v t).fill ≡ Some c → SameLineAndWay b c
   -- to finish a fill is to fetch the words that it lacks
   pub finishes : (v : Shown) (t : Model) → Coherent v t → fetched_times (lacking t.fill) v t ≡ finished v t
   pub lands : (v : Shown) (t : Model) (b : Fill) → Coherent v t → t.fill ≡ Some b → LandsWhereNamed v t b
-  -- a read that the line buffer does not answer touches the way that holds the line, and so does a write
-  pub reads_touch : (v : Shown) (t : Model) (w : ℕ) → buffered_of t.fill w ≡ None → HolderIsSpared (read_turn v t w).tables w
-  pub writes_touch : (v : Shown) (t : Model) (w : Store) (r : Result (Unit {0}) Fault) → HolderIsSpared (write_turn v t w r).tables w.word
-  -- a snoop and an outside write make the cache forget the line, wherever it is
-  pub snoops_forget : (v : Shown) (t : Model) (w : ℕ) (r : Result (Unit {0}) Fault) → Coherent v t → LineIsGone t (snoop_turn t w r).tables (line_of w)
-  pub outsides_forget : (v : Shown) (t : Model) (w : Store) (r : Result (Unit {0}) Fault) → Coherent v t → LineIsGone t (outside_turn t w r).tables (line_of w.word)
-  pub flushes_forget : AllIsForgotten flush_turn.tables
-  -- a word from the line buffer, a word from a way, and a word that may be kept and is answered by neither
-  pub buffered_leaves_all : (v : Shown) (t : Model) (w x : ℕ) → buffered_of t.fill w ≡ Some x → ReadLeavesAll v t w
-  pub hits_only_touch : (v : Shown) (t : Model) (w : ℕ) (k : WayNumber) → buffered_of t.fill w ≡ None → found t.dir (line_of w) ≡ Some k → ReadOnlyTouches v t w k
-  pub late_hits_touch : (v : Shown) (t : Model) (w : ℕ) (k : WayNumber) → buffered_of t.fill w ≡ None → found t.dir (line_of w) ≡ None → found (finished v t).dir (line_of w) ≡ Some k → LateHitTouches v t w k
-  pub misses_ask_once : (v : Shown) (t : Model) (w : ℕ) → NothingAnswers v t w → AsksForTheWord v t w
-  pub misses_else_nothing : (v : Shown) (t : Model) (w : ℕ) → NothingAnswers v t w → (v.readable w ≡ true → v.cacheable (line_of w) ≡ false) → (read_turn v t w).tables ≡ finished v t
-  pub misses_fill : (v : Shown) (t : Model) (w : ℕ) → Coherent v t → NothingAnswers v t w → w < v.words → v.readable w ≡ true → v.cacheable (line_of w) ≡ true → FillBegins v t w
-  -- a write elsewhere, or to a protected line; and one to a line under fill that is open to it
-  pub writes_only_touch : (v : Shown) (t : Model) (w : Store) (r : Result (Unit {0}) Fault) → Coherent v t → NoneOpen v t (line_of w.word) → WriteOnlyTouches v t w r
-  pub writes_land : (v : Shown) (t : Model) (w : Store) (r : Result (Unit {0}) Fault) (b : Fill) → Coherent v t → t.fill ≡ Some b → b.line ≡ line_of w.word → v.protected b.line ≡ false → WriteLandsTheLine v t w r b
-  pub advances_fetch_one : (v : Shown) (t : Model) (b : Fill) → Coherent v t → t.fill ≡ Some b → OneWordComes v t b
-  pub advances_else_nothing : (v : Shown) (t : Model) → t.fill ≡ None → (advance_turn v t).tables ≡ t
+
+-- A read that the line buffer does not answer touches the way that holds the line, and so does a write.
+pub record UsedWaysAreSpared : Type 0 where
+  pub reads : (v : Shown) (t : Model) (w : ℕ) → buffered_of t.fill w ≡ None → HolderIsSpared (read_turn v t w).tables w
+  pub writes : (v : Shown) (t : Model) (w : Store) (r : Result (Unit {0}) Fault) → HolderIsSpared (write_turn v t w r).tables w.word
+
+-- A snoop and an outside write make the cache forget the line, wherever it is, and a flush all lines.
+pub record MastersWritesAreForgotten : Type 0 where
+  pub snoops : (v : Shown) (t : Model) (w : ℕ) (r : Result (Unit {0}) Fault) → Coherent v t → LineIsGone t (snoop_turn t w r).tables (line_of w)
+  pub outsides : (v : Shown) (t : Model) (w : Store) (r : Result (Unit {0}) Fault) → Coherent v t → LineIsGone t (outside_turn t w r).tables (line_of w.word)
+  pub flushes : AllIsForgotten flush_turn.tables
+
+-- A word from the line buffer changes nothing, and a word from a way only touches that way.
+pub record HitsOnlyTouch : Type 0 where
+  pub buffered : (v : Shown) (t : Model) (w x : ℕ) → buffered_of t.fill w ≡ Some x → ReadLeavesAll v t w
+  pub held : (v : Shown) (t : Model) (w : ℕ) (k : WayNumber) → buffered_of t.fill w ≡ None → found t.dir (line_of w) ≡ Some k → ReadOnlyTouches v t w k
+  pub late : (v : Shown) (t : Model) (w : ℕ) (k : WayNumber) → buffered_of t.fill w ≡ None → found t.dir (line_of w) ≡ None → found (finished v t).dir (line_of w) ≡ Some k → LateHitTouches v t w k
+
+-- A word that neither answers is asked for once; where it can be read and its line may be cached it begins a fill, and else nothing does.
+pub record MissesBeginFills : Type 0 where
+  pub asks : (v : Shown) (t : Model) (w : ℕ) → NothingAnswers v t w → AsksForTheWord v t w
+  pub else_nothing : (v : Shown) (t : Model) (w : ℕ) → NothingAnswers v t w → (v.readable w ≡ true → v.cacheable (line_of w) ≡ false) → (read_turn v t w).tables ≡ finished v t
+  pub fills : (v : Shown) (t : Model) (w : ℕ) → Coherent v t → NothingAnswers v t w → w < v.words → v.readable w ≡ true → v.cacheable (line_of w) ≡ true → FillBegins v t w
+
+-- A write to an open line under fill finishes that line and stands in it; any other only touches the way that holds its line.
+pub record WritesLandOrOnlyTouch : Type 0 where
+  pub only_touch : (v : Shown) (t : Model) (w : Store) (r : Result (Unit {0}) Fault) → Coherent v t → NoneOpen v t (line_of w.word) → WriteOnlyTouches v t w r
+  pub land : (v : Shown) (t : Model) (w : Store) (r : Result (Unit {0}) Fault) (b : Fill) → Coherent v t → t.fill ≡ Some b → b.line ≡ line_of w.word → v.protected b.line ≡ false → WriteLandsTheLine v t w r b
+
+-- An advance brings one word of a fill at most.
+pub record AdvancesFetchOneWord : Type 0 where
+  pub one : (v : Shown) (t : Model) (b : Fill) → Coherent v t → t.fill ≡ Some b → OneWordComes v t b
+  pub else_nothing : (v : Shown) (t : Model) → t.fill ≡ None → (advance_turn v t).tables ≡ t

@@ -23,7 +23,7 @@ use Rattle.cache_tables.specs.declared.tables.Tables.{Tables}
 use Rattle.cache_tables.specs.Rules.{model}
 use Rattle.cache.specs.Doing.{inspect_answer}
 use Rattle.card.specs.declared.stages.Held.{Held}
-use Rattle.card.specs.Card.{card_size, unless_unfit, ram_ghosts, eprom_ghosts, CardMemory, memory_ghosts, first_state, OnlyWordsDiffer, card_floor, CardKeepsItsPromise}
+use Rattle.card.specs.Card.{card_size, unless_unfit, ram_ghosts, eprom_ghosts, CardMemory, memory_ghosts, first_state, OnlyWordsDiffer, card_floor, NeverAnOldDigitOnTheCard}
 
 -- RECORDS THAT DIFFER IN THEIR WORDS
 
@@ -159,7 +159,7 @@ module _ (before after : List Line) (image : List ℕ) (memory left : CardMemory
       let few : length (queued run.pile.below.queue) ≤ 4 = omega (arith, length-take run.pile.below.queue.len run.pile.below.queue.writes, run.pile.below.queue.few) in
       omega (arith, run.counted, ap (λ (q : Queue). length (queued q)) run.queue, few)
 
-  card_keeps : (list : Result (List Call) Fault) → unless_unfit list (card_size (length before) (length image)) ≡ Ok cs → CardKeepsItsPromise before image cs rs waiting held after
+  card_keeps : (list : Result (List Call) Fault) → unless_unfit list (card_size (length before) (length image)) ≡ Ok cs → NeverAnOldDigitOnTheCard before image cs rs waiting held after
   card_keeps list e =
       let size = ran_fits list (card_size (length before) (length image)) cs e in
       record {
@@ -179,6 +179,6 @@ module _ (before after : List Line) (image : List ℕ) (memory left : CardMemory
 pub promise_kept : (before after : List Line) (image : List ℕ) (memory left : CardMemory) (cs ds : List Call) (rs : List (Result Answer Fault)) (waiting : ℕ) (held : Held) (list : Result (List Call) Fault)
     → EachSideGetsItsOwn ram_ghosts eprom_ghosts → memory.low.lines.now ≡ before → memory.high.bytes.now ≡ image → left.low.lines.now ≡ after
     → RunOnTheStages memory_ghosts memory ds rs waiting held left → ds ≡ cs → unless_unfit list (card_size (length before) (length image)) ≡ Ok cs
-    → CardKeepsItsPromise before image cs rs waiting held after
+    → NeverAnOldDigitOnTheCard before image cs rs waiting held after
 promise_kept before after image memory left cs ds rs waiting held list own low high handed run same e =
     card_keeps before after image memory left cs rs waiting held own low high handed (subst (λ xs. RunOnTheStages memory_ghosts memory xs rs waiting held left) same run) list e

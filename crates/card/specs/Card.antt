@@ -66,7 +66,7 @@ card_floor = 3
 
 -- A list of calls run on the card: the promise about old digits holds of the whole pile, which began with the caller's records
 -- and image. The records are handed back with settled memory in their words, and all else as it was.
-pub record CardKeepsItsPromise (before : List Line) (image : List ℕ) (cs : List Call) (rs : List (Result Answer Fault)) (waiting : ℕ) (held : Held) (after : List Line) : Type 0 where
+pub record NeverAnOldDigitOnTheCard (before : List Line) (image : List ℕ) (cs : List Call) (rs : List (Result Answer Fault)) (waiting : ℕ) (held : Held) (after : List Line) : Type 0 where
   pub memory : CardMemory
   pub left : CardMemory
   pub run : RunOnTheStages memory_ghosts memory cs rs waiting held left

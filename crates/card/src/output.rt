@@ -3,7 +3,7 @@ ghost use Rattle.std.specs.Prelude.{◌≡◌, length, Ok, MatchResult, IfOk, On
 ghost use Rattle.std.specs.Io.KnownBytes.{Appends, Keeps};
 ghost use Rattle.std.specs.Io.Buffered.{writer_contents};
 ghost use Rattle.calls.specs.Whole.{Told};
-ghost use Rattle.card.specs.Card.{card_size, calls_to_run, CardKeepsItsPromise};
+ghost use Rattle.card.specs.Card.{card_size, calls_to_run, NeverAnOldDigitOnTheCard};
 ghost use Rattle.card.specs.Output.{line_of, header, answered_lines, run_text, Took, StopWritten, StopGiven};
 
 use super::whole::{CardRun, NotRun, card_words, run_card};
@@ -122,7 +122,7 @@ pub fn print_card<'a, W: Write>(
     list: &[u8],
 ) -> (Result<CardRun<'a>, NotRun<'a>>, io::Result<()>)
     ensures calls { MatchResult result.0 (λ run. calls_to_run list.now lines.old image.now ≡ Ok run.calls.items) (λ none. Told none.stop (calls_to_run list.now lines.old image.now)) }
-    ensures promise { MatchResult result.0 (λ run. CardKeepsItsPromise lines.old image.now run.calls.items run.answers.items run.waiting run.held run.lines.now) (λ none. none.lines.now ≡ lines.old) }
+    ensures promise { MatchResult result.0 (λ run. NeverAnOldDigitOnTheCard lines.old image.now run.calls.items run.answers.items run.waiting run.held run.lines.now) (λ none. none.lines.now ≡ lines.old) }
     ensures caller { MatchResult result.0 (λ run. run.lines.ghost_name ≡ lines.entry.ghost_name) (λ none. none.lines.ghost_name ≡ lines.entry.ghost_name) }
     ensures output { MatchResult result.0 (λ run. Took result.1 (W.contents writer.old) (W.contents writer.new) (run_text (card_size (length lines.old) (length image.now)) run.calls.items run.answers.items run.waiting)) (λ none. StopWritten (card_size (length lines.old) (length image.now)) none.stop result.1 (W.contents writer.old) (W.contents writer.new)) }
 {
@@ -148,7 +148,7 @@ pub fn print_card_buffered<'a, W: Write + Drop>(
     list: &[u8],
 ) -> (Result<CardRun<'a>, NotRun<'a>>, io::Result<W>)
     ensures calls { MatchResult result.0 (λ run. calls_to_run list.now lines.old image.now ≡ Ok run.calls.items) (λ none. Told none.stop (calls_to_run list.now lines.old image.now)) }
-    ensures promise { MatchResult result.0 (λ run. CardKeepsItsPromise lines.old image.now run.calls.items run.answers.items run.waiting run.held run.lines.now) (λ none. none.lines.now ≡ lines.old) }
+    ensures promise { MatchResult result.0 (λ run. NeverAnOldDigitOnTheCard lines.old image.now run.calls.items run.answers.items run.waiting run.held run.lines.now) (λ none. none.lines.now ≡ lines.old) }
     ensures caller { MatchResult result.0 (λ run. run.lines.ghost_name ≡ lines.entry.ghost_name) (λ none. none.lines.ghost_name ≡ lines.entry.ghost_name) }
     ensures output { MatchResult result.0 (λ run. IfOk result.1 (λ left. Appends (W.contents writer) (W.contents left) (run_text (card_size (length lines.old) (length image.now)) run.calls.items run.answers.items run.waiting))) (λ none. StopGiven (card_size (length lines.old) (length image.now)) none.stop result.1 (W.contents writer) W.contents) }
 {

@@ -1,7 +1,7 @@
 //! A whole list run on the whole card.
 ghost use Rattle.std.specs.Prelude.{◌≡◌, length, Ok, MatchResult};
 ghost use Rattle.calls.specs.Whole.{Told};
-ghost use Rattle.card.specs.Card.{card_size, calls_to_run, CardKeepsItsPromise};
+ghost use Rattle.card.specs.Card.{card_size, calls_to_run, NeverAnOldDigitOnTheCard};
 
 use super::stages::{Held, run_on_stages};
 use banks::{EpromBank, Line, RamBank, eprom_size, joint_size, ram_size};
@@ -58,7 +58,7 @@ pub fn run_card<'a>(
     list: &[u8],
 ) -> Result<CardRun<'a>, NotRun<'a>>
     ensures calls { MatchResult result (λ run. calls_to_run list.now lines.old image.now ≡ Ok run.calls.items) (λ none. Told none.stop (calls_to_run list.now lines.old image.now)) }
-    ensures promise { MatchResult result (λ run. CardKeepsItsPromise lines.old image.now run.calls.items run.answers.items run.waiting run.held run.lines.now) (λ none. none.lines.now ≡ lines.old) }
+    ensures promise { MatchResult result (λ run. NeverAnOldDigitOnTheCard lines.old image.now run.calls.items run.answers.items run.waiting run.held run.lines.now) (λ none. none.lines.now ≡ lines.old) }
     ensures caller { MatchResult result (λ run. run.lines.ghost_name ≡ lines.entry.ghost_name) (λ none. none.lines.ghost_name ≡ lines.entry.ghost_name) }
 {
     let calls = match calls_to_run(alloc, lines, image, list) {

@@ -4,7 +4,7 @@ use Rattle.fault.specs.declared.Fault.{Fault}
 use Rattle.port.specs.declared.Store.{Store}
 use Rattle.port.specs.Memory.{Memory, State, stored, applied, seen, posted, settling, drained, outside, raised}
 use Rattle.port.specs.Meaning.{Settles, ByAnswer}
-use Rattle.port.specs.Laws.{SettlingIsLawful}
+use Rattle.port.specs.Laws.{SettlingIsNeverSeen}
 
 pub applied-append : (p : ℕ → Bool) (xs ys : List Store) (m : Memory) → applied p (xs ++ ys) m ≡ applied p ys (applied p xs m)
 applied-append p [] ys m = refl
@@ -54,8 +54,8 @@ settles_all s t a e =
     let all : a.gone ≡ s.waiting = sym (append-nil a.gone) ∙ ap (λ l. a.gone ++ l) (sym none) ∙ sym a.split in
     a.after ∙ ap (λ r. settling a.gone r s) none ∙ ap (λ g. settling g [] s) all
 
-pub settling_is_lawful : SettlingIsLawful
-settling_is_lawful = record { composes = settles_then; unseen = seen_kept; commutes = settles_under; ends = settles_all }
+pub settling_is_never_seen : SettlingIsNeverSeen
+settling_is_never_seen = record { composes = settles_then; unseen = seen_kept; commutes = settles_under; ends = settles_all }
 
 -- where nothing waits, a write that is stored at once has joined and settled
 pub stored_at_once : (s t : State) (w : Store) → s.waiting ≡ [] → t ≡ outside w s → Settles (posted (w ∷ []) s) t

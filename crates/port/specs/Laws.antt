@@ -6,7 +6,7 @@ use Rattle.port.specs.Lanes.{merged}
 use Rattle.port.specs.Memory.{State, seen, posted, drained}
 use Rattle.port.specs.Meaning.{read_answer, settled_answer, write_answer, Settles}
 
-pub record SettlingIsLawful : Type 0 where
+pub record SettlingIsNeverSeen : Type 0 where
   -- settling and settling again is settling
   pub composes : (s t u : State) → Settles s t → Settles t u → Settles s u
   -- it never changes what is seen

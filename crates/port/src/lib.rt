@@ -7,7 +7,7 @@ ghost use Rattle.port.specs.Memory.{State, WholeLines, seen, posted, drained, ou
 ghost use Rattle.port.specs.Meaning.{within, writable, read_answer, settled_answer, write_answer, snoop_answer, marks_answer, waiting_answer, Settles, Advances, ByAnswer, Kept};
 ghost use Rattle.port.specs.Checks.{InRange, Writable};
 ghost use Rattle.port.specs.Steps.{Step, reads, writes, advances, outsides, snoops, flushes, Drains, Through};
-ghost use Rattle.port.specs.Laws.{SettlingIsLawful, RefusedInOrder, LanesReplaceBytes};
+ghost use Rattle.port.specs.Laws.{SettlingIsNeverSeen, RefusedInOrder, LanesReplaceBytes};
 
 use fault::{Fault, Refusal};
 
@@ -167,7 +167,7 @@ pub fn check_store_above<P: Port>(below: &P, write: Store) -> Result<(), Fault>
 pub fn settle_all<P: Port>(port: &mut P)
     ensures after { P.state port.new ≡ drained (P.state port.old) }
     ensures did { Drains P.state P.does port.old port.new }
-    ensures law { SettlingIsLawful }
+    ensures law { SettlingIsNeverSeen }
 {
     while port.waiting() > 0 {
         port.advance();

@@ -7,8 +7,7 @@ use Rattle.port.specs.Meaning.{Settles, Advances}
 use Rattle.port.specs.Steps.{Step, writes, Chain, done, then}
 use Rattle.port.proofs.Settling.{applied-append, settles_then, settles_under, settles_raised, settles_length, posted_none, seen_kept}
 use Rattle.write_buffer.specs.Queues.{leaving}
-use Rattle.write_buffer.specs.Buffering.{buffered, sends, BufferingIsLawful}
-use Rattle.write_buffer.proofs.Queueing.{at_most_four}
+use Rattle.write_buffer.specs.Buffering.{buffered, sends, HoldingBackIsNeverSeen}
 
 pub settles_facts : (s t : State) → Settles s t → t.facts ≡ s.facts
 settles_facts s t a = ap (λ (x : State). x.facts) a.after
@@ -26,9 +25,8 @@ send_one s t w ws a =
 pub send_buffered : (s t : State) (w : Store) (ws : List Store) → Settles (posted (w ∷ []) s) t → Settles (buffered s (w ∷ ws)) (buffered t ws)
 send_buffered s t w ws a = settles_raised (posted (w ∷ ws) s) (posted ws t) (send_one s t w ws a)
 
-pub buffering_is_lawful : BufferingIsLawful
-buffering_is_lawful = record {
-  four = at_most_four;
+pub holding_back_is_never_seen : HoldingBackIsNeverSeen
+holding_back_is_never_seen = record {
   sees = λ s ws. applied-append s.protected s.waiting ws s.settled;
   unseen = λ s t w ws a. seen_kept _ _ (send_buffered s t w ws a);
 }

@@ -56,9 +56,11 @@ Does b (outsides w r) c = ByAnswer r (PassesOn (outsides w r) b c) (c ≡ b)
 Does b (snoops w r) c = ByAnswer r (PassesOn (snoops w r) b c) (c ≡ b)
 Does b flushes c = PassesOn flushes b c
 
-pub record BufferingIsLawful : Type 0 where
-  -- four at most wait in a queue
-  pub four : (q : Queue) → length (queued q) ≤ queue_depth
+-- Four at most wait in a queue.
+abbrev pub FourAtMostWait : Type 0
+FourAtMostWait = (q : Queue) → length (queued q) ≤ queue_depth
+
+pub record HoldingBackIsNeverSeen : Type 0 where
   -- what is seen above is what is seen below with the queue applied
   pub sees : (s : State) (ws : List Store) → seen (buffered s ws) ≡ applied s.protected ws (seen s)
   -- to send the oldest below changes nothing that is seen above

@@ -18,14 +18,16 @@ pub struct WriteBuffer<P: Port> {
 
 impl<P: Port> WriteBuffer<P> {
     ghost use Rattle.std.specs.Prelude.{◌≡◌, []};
-    ghost use Rattle.write_buffer.specs.Buffering.{BufferingIsLawful};
+    ghost use Rattle.write_buffer.specs.Buffering.{FourAtMostWait, HoldingBackIsNeverSeen};
     ghost use Rattle.write_buffer.specs.Runs.{NothingIsLost};
 
     /// A buffer over a port, with an empty queue.
+    #[tactic(auto, using(crate::proofs::Queueing::at_most_four, crate::proofs::SendingLemmas::holding_back_is_never_seen, crate::proofs::Ordering::nothing_is_lost))]
     pub fn new(below: P) -> WriteBuffer<P>
         ensures below { result.below ≡ below }
         ensures queue { queued result.queue ≡ [] }
-        ensures law { BufferingIsLawful }
+        ensures few { FourAtMostWait }
+        ensures unseen { HoldingBackIsNeverSeen }
         ensures run { NothingIsLost P.Port }
     {
         WriteBuffer {

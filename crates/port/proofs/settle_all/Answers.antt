@@ -1,7 +1,7 @@
 use Rattle.std.proofs.Common.{◌≡◌, ◌<◌, [], length, arith}
 use Rattle.std.proofs.lemmas.List.{nil_from_length}
 use Rattle.port.specs.Steps.{empty, more}
-use Rattle.port.proofs.Settling.{settles_then, settles_all, settling_is_lawful}
+use Rattle.port.proofs.Settling.{settles_then, settles_all, settling_is_never_seen}
 use Rattle.port.proofs.settle_all.Goals as goal
 
 pub loop-port-preserved : goal.loop-port-preserved
@@ -17,5 +17,5 @@ returns g c =
     record {
       after = settles_all _ _ c.loop-port.invariant.0 none;
       did = c.loop-port.invariant.1 c.loop-port.port (empty none);
-      law = settling_is_lawful;
+      law = settling_is_never_seen;
     }

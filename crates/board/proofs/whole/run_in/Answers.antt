@@ -1,7 +1,7 @@
 use Rattle.std.proofs.Common.{◌≡◌, ℕ, length, take, refl, ◌∙◌, subst, arith, length-set}
 use Rattle.std.proofs.lemmas.List.{take_more_set, drop-set-lt}
 use Rattle.book.specs.Promise.{NeverAnOldDigit}
-use Rattle.book.proofs.Running.{made_none, made_turn, keeps_all, the_book_is_sound}
+use Rattle.book.proofs.Running.{made_none, made_turn, keeps_all, the_promise_is_not_empty}
 use Rattle.board.proofs.whole.run_in.Goals as goal
 
 pub loop-i-init : goal.loop-i-init
@@ -26,5 +26,5 @@ returns g c =
       refused = c.if-room-calls.false;
       beyond = c.loop-i.invariant.beyond;
       size = c.loop-i.invariant.size;
-      law = the_book_is_sound;
+      law = the_promise_is_not_empty;
     }
