@@ -109,7 +109,7 @@ impl<P: Port> Cache<P> {
     ghost use Rattle.cache.specs.Runs.{OnlyReadsAreKept};
 
     /// A cache over a port, with no valid way, no LRU bit set and no fill.
-    #[tactic(auto, using(cache_tables::proofs::Lawful::settling_never_shows, cache_tables::proofs::Lawful::answers_are_what_is_seen, cache_tables::proofs::Lawful::lines_land_where_named, cache_tables::proofs::Lawful::used_ways_are_spared, cache_tables::proofs::Lawful::masters_writes_are_forgotten, cache_tables::proofs::Lawful::hits_only_touch, cache_tables::proofs::Lawful::misses_begin_fills, cache_tables::proofs::Lawful::writes_land_or_only_touch, cache_tables::proofs::Lawful::advances_fetch_one_word, cache_tables::proofs::Trying::two_line_examples_hold, crate::proofs::Passing::only_reads_are_kept))]
+    #[tactic(auto, using(cache_tables::proofs::Lawful::promises, crate::proofs::Passing::only_reads_are_kept))]
     pub fn new(below: P) -> Cache<P>
         ensures below { result.below ≡ below }
         ensures tables { tables_of result ≡ cleared }

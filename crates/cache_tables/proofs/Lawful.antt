@@ -21,6 +21,7 @@ use Rattle.cache_tables.proofs.Keeping.{fetch_keeps, fetch_finishes}
 use Rattle.cache_tables.proofs.Fetching.{shown_kept, fetch_falls}
 use Rattle.cache_tables.proofs.Reading.{buffered_sees, hit_sees, none_found}
 use Rattle.cache_tables.proofs.Changing.{left_some}
+use Rattle.cache_tables.proofs.Trying.{two_line_examples_hold}
 use Rattle.cache_tables.proofs.Staying.{buffered_leaves_all, held_only_touches, late_hits_touch, misses_ask_once, misses_else_nothing, misses_fill, same_lines, writes_only_touch, writes_land, advances_fetch_one, advances_else_nothing}
 
 named : (v : Shown) (d : Dir) (w : ℕ) (b : Fill) → (begun v d w).fill ≡ Some b → NamedAtTheMiss v d w b
@@ -193,3 +194,5 @@ writes_land_or_only_touch = record { only_touch = writes_only_touch; land = λ v
 
 pub advances_fetch_one_word : AdvancesFetchOneWord
 advances_fetch_one_word = record { one = λ v t. advances_fetch_one v t.dir t.fill; else_nothing = advances_else_nothing }
+
+pub ruleset promises = (settling_never_shows, answers_are_what_is_seen, lines_land_where_named, used_ways_are_spared, masters_writes_are_forgotten, hits_only_touch, misses_begin_fills, writes_land_or_only_touch, advances_fetch_one_word, two_line_examples_hold)
