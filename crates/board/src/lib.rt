@@ -6,4 +6,4 @@ mod whole;
 
 pub use board::{Board, Grant, Lock};
 pub use book::{Answer, Mode};
-pub use whole::{NoRoom, Outcome, compare, run, run_in};
+pub use whole::{NoRoom, Outcome, compare, room_for, run, run_in};

@@ -58,8 +58,8 @@ pub fn run<P: Port>(alloc: Global, port: P, calls: &[Call]) -> Result<Outcome<P>
     }
 }
 
-// The answers' place for as many calls.
-fn room_for(alloc: Global, calls: &[Call]) -> Result<Vec<Result<Answer, Fault>>, AllocError>
+/// Room for the answers to as many calls.
+pub fn room_for(alloc: Global, calls: &[Call]) -> Result<Vec<Result<Answer, Fault>>, AllocError>
     ensures { IfOk result (λ room. length room.items ≡ length calls.now) }
 {
     vec![in alloc; Ok(Answer::Done); calls.len()]

@@ -3,9 +3,10 @@ ghost use Rattle.cache_tables.specs.Showing.{shown};
 ghost use Rattle.cache_tables.specs.Rules.{model};
 ghost use Rattle.cache_tables.specs.Coherence.{Coherent};
 
+use crate::questions::inspect;
 use cache_tables::Tables;
 use directory::WayState;
-use fault::{Fault, Refusal};
+use fault::Fault;
 use port::{Port, Store, check_above, check_range, check_store_above};
 
 /// A port that keeps lines of the port below.
@@ -27,14 +28,6 @@ impl<P: Port> Cache<P> {
     ghost use Rattle.cache.specs.Doing.{shows_below, tables_of, TakesTurn};
 
     /// Takes the cache apart. The port below is as it was, and nothing settles.
-    pub fn into_below(self) -> P
-        ensures { result ≡ self.below }
-    {
-        let Cache { below, tables: _ } = self;
-        below
-    }
-
-    /// Takes the cache apart, and hands its tables back too. The port below is as it was, and nothing settles.
     pub fn into_parts(self) -> (P, Tables)
         ensures below { result.0 ≡ self.below }
         ensures tables { result.1 ≡ self.tables }
@@ -135,11 +128,7 @@ impl<P: Port> Cache<P> {
     pub fn inspect(&self, set: u32, way: u32) -> Result<WayState, Fault>
         ensures { result ≡ inspect_answer (tables_of self.now).dir (floor_above (P.state self.now.below).facts.floor) set way }
     {
-        self.tables.directory.inspect(set, way).ok_or(Fault {
-            refusal: Refusal::PastEnd,
-            place: set,
-            floor: self.floor(),
-        })
+        inspect(&self.tables, self.floor(), set, way)
     }
 
     /// How many ways are valid.

@@ -2,5 +2,7 @@
 #![tactic(auto)]
 
 mod cache;
+mod questions;
 
 pub use cache::Cache;
+pub use questions::inspect;

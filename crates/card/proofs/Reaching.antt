@@ -10,7 +10,7 @@ use Rattle.port.specs.Steps.{writes, advances, done, then, Drains, empty, more, 
 use Rattle.write_buffer.specs.declared.buffer.WriteBuffer.{WriteBuffer}
 use Rattle.write_buffer.specs.declared.queue.Queue.{Queue}
 use Rattle.write_buffer.specs.Queues.{queued}
-use Rattle.card.specs.declared.stages.Held.{Held}
+use Rattle.card.specs.declared.stages.Remains.{Remains}
 use Rattle.write_buffer.specs.Runs.{NothingIsLost}
 use Rattle.cache_tables.specs.Rules.{cleared}
 use Rattle.cache.specs.Doing.{tables_of}
@@ -82,11 +82,11 @@ module _ {P : Type 0} {G : Ghosts P} where
   pub queue_kept : (q : Queue) (b : WriteBuffer P G) (c d : Pile G) → d ≡ c → b ≡ d.below → q ≡ b.queue → q ≡ c.below.queue
   queue_kept q b c d e f g = g ∙ ap (λ (x : WriteBuffer P G). x.queue) f ∙ ap (λ (x : Pile G). x.below.queue) e
 
-  pub on_the_stages : (memory left : P) (cs : List Call) (rs : List (Result Answer Fault)) (waiting : ℕ) (held : Held) (made pile : Pile G) (mode : Mode)
-      → Fresh memory made → pile.below.below ≡ left → held.queue ≡ pile.below.queue → held.tables ≡ pile.tables → NothingIsLost G → OnlyReadsAreKept (buffer_ghosts G)
+  pub on_the_stages : (memory left : P) (cs : List Call) (rs : List (Result Answer Fault)) (waiting : ℕ) (remains : Remains) (made pile : Pile G) (mode : Mode)
+      → Fresh memory made → pile.below.below ≡ left → remains.queue ≡ pile.below.queue → remains.tables ≡ pile.tables → NothingIsLost G → OnlyReadsAreKept (buffer_ghosts G)
       → NeverAnOldDigit (pile_ghosts G) made cs rs mode pile → waiting ≡ waiting_answer (pile_state G pile)
-      → RunOnTheStages G memory cs rs waiting held left
-  on_the_stages memory left cs rs waiting held made pile mode fresh handed queue tables lost kept promise counted =
+      → RunOnTheStages G memory cs rs waiting remains left
+  on_the_stages memory left cs rs waiting remains made pile mode fresh handed queue tables lost kept promise counted =
       let top = run_reached (pile_ghosts G) made cs rs mode pile promise in
       let buffer = kept made pile top.calls top.chain in
       let bottom = lost.run made.below pile.below buffer.calls buffer.chain in

@@ -22,7 +22,7 @@ use Rattle.directory.specs.Dirs.{valid_ways}
 use Rattle.cache_tables.specs.declared.tables.Tables.{Tables}
 use Rattle.cache_tables.specs.Rules.{model}
 use Rattle.cache.specs.Doing.{inspect_answer}
-use Rattle.card.specs.declared.stages.Held.{Held}
+use Rattle.card.specs.declared.stages.Remains.{Remains}
 use Rattle.card.specs.Card.{card_size, unless_unfit, ram_ghosts, eprom_ghosts, CardMemory, memory_ghosts, first_state, OnlyWordsDiffer, card_floor, NeverAnOldDigitOnTheCard}
 
 -- RECORDS THAT DIFFER IN THEIR WORDS
@@ -134,9 +134,9 @@ ran_fits (Ok ds) (Ok w) cs e = (w, refl)
 ran_fits (Ok ds) (Err fault) cs e = let z : ◌≡◌ {A = ℕ} 0 1 = cc in absurd (omega arith)
 ran_fits (Err fault) size cs e = let z : ◌≡◌ {A = ℕ} 0 1 = cc in absurd (omega arith)
 
-module _ (before after : List Line) (image : List ℕ) (memory left : CardMemory) (cs : List Call) (rs : List (Result Answer Fault)) (waiting : ℕ) (held : Held)
+module _ (before after : List Line) (image : List ℕ) (memory left : CardMemory) (cs : List Call) (rs : List (Result Answer Fault)) (waiting : ℕ) (remains : Remains)
     (own : EachSideGetsItsOwn ram_ghosts eprom_ghosts) (low : memory.low.lines.now ≡ before) (high : memory.high.bytes.now ≡ image) (handed : left.low.lines.now ≡ after)
-    (run : RunOnTheStages memory_ghosts memory cs rs waiting held left) where
+    (run : RunOnTheStages memory_ghosts memory cs rs waiting remains left) where
   others : OnlyWordsDiffer before after
   others = subst₂ OnlyWordsDiffer low handed (chain_kept own memory left run.reached.calls run.reached.chain).0
 
@@ -154,12 +154,12 @@ module _ (before after : List Line) (image : List ℕ) (memory left : CardMemory
       ∙ sym (ap (λ t. cond t ((memory_of left.low.lines.now).word a) ((eprom_ghosts.state left.high).settled.word (a - words_of_lines (length left.low.lines.now)))) here)
       ∙ sym (ap (λ (p : CardMemory). (memory_ghosts.state p).settled.word a) run.handed)
 
-  counts_them : waiting ≡ length (queued held.queue)
+  counts_them : waiting ≡ length (queued remains.queue)
   counts_them =
       let few : length (queued run.pile.below.queue) ≤ 4 = omega (arith, length-take run.pile.below.queue.len run.pile.below.queue.writes, run.pile.below.queue.few) in
       omega (arith, run.counted, ap (λ (q : Queue). length (queued q)) run.queue, few)
 
-  card_keeps : (list : Result (List Call) Fault) → unless_unfit list (card_size (length before) (length image)) ≡ Ok cs → NeverAnOldDigitOnTheCard before image cs rs waiting held after
+  card_keeps : (list : Result (List Call) Fault) → unless_unfit list (card_size (length before) (length image)) ≡ Ok cs → NeverAnOldDigitOnTheCard before image cs rs waiting remains after
   card_keeps list e =
       let size = ran_fits list (card_size (length before) (length image)) cs e in
       record {
@@ -176,9 +176,9 @@ module _ (before after : List Line) (image : List ℕ) (memory left : CardMemory
       }
 
 -- The calls that are run are those of the list, as a slice of them shows.
-pub promise_kept : (before after : List Line) (image : List ℕ) (memory left : CardMemory) (cs ds : List Call) (rs : List (Result Answer Fault)) (waiting : ℕ) (held : Held) (list : Result (List Call) Fault)
+pub promise_kept : (before after : List Line) (image : List ℕ) (memory left : CardMemory) (cs ds : List Call) (rs : List (Result Answer Fault)) (waiting : ℕ) (remains : Remains) (list : Result (List Call) Fault)
     → EachSideGetsItsOwn ram_ghosts eprom_ghosts → memory.low.lines.now ≡ before → memory.high.bytes.now ≡ image → left.low.lines.now ≡ after
-    → RunOnTheStages memory_ghosts memory ds rs waiting held left → ds ≡ cs → unless_unfit list (card_size (length before) (length image)) ≡ Ok cs
-    → NeverAnOldDigitOnTheCard before image cs rs waiting held after
-promise_kept before after image memory left cs ds rs waiting held list own low high handed run same e =
-    card_keeps before after image memory left cs rs waiting held own low high handed (subst (λ xs. RunOnTheStages memory_ghosts memory xs rs waiting held left) same run) list e
+    → RunOnTheStages memory_ghosts memory ds rs waiting remains left → ds ≡ cs → unless_unfit list (card_size (length before) (length image)) ≡ Ok cs
+    → NeverAnOldDigitOnTheCard before image cs rs waiting remains after
+promise_kept before after image memory left cs ds rs waiting remains list own low high handed run same e =
+    card_keeps before after image memory left cs rs waiting remains own low high handed (subst (λ xs. RunOnTheStages memory_ghosts memory xs rs waiting remains left) same run) list e

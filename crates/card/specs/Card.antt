@@ -21,7 +21,7 @@ use Rattle.write_buffer.specs.Queues.{queued}
 use Rattle.directory.specs.Dirs.{valid_ways}
 use Rattle.cache_tables.specs.Rules.{model}
 use Rattle.cache.specs.Doing.{tables_of, inspect_answer}
-use Rattle.card.specs.declared.stages.Held.{Held}
+use Rattle.card.specs.declared.stages.Remains.{Remains}
 use Rattle.card.specs.Stages.{pile_state, pile_floor, RunOnTheStages}
 
 -- How many words the card has: RAM, EPROM and both together have to be of fit size.
@@ -66,16 +66,16 @@ card_floor = 3
 
 -- A list of calls run on the card: the promise about old digits holds of the whole pile, which began with the caller's records
 -- and image. The records are handed back with settled memory in their words, and all else as it was.
-pub record NeverAnOldDigitOnTheCard (before : List Line) (image : List ℕ) (cs : List Call) (rs : List (Result Answer Fault)) (waiting : ℕ) (held : Held) (after : List Line) : Type 0 where
+pub record NeverAnOldDigitOnTheCard (before : List Line) (image : List ℕ) (cs : List Call) (rs : List (Result Answer Fault)) (waiting : ℕ) (remains : Remains) (after : List Line) : Type 0 where
   pub memory : CardMemory
   pub left : CardMemory
-  pub run : RunOnTheStages memory_ghosts memory cs rs waiting held left
+  pub run : RunOnTheStages memory_ghosts memory cs rs waiting remains left
   pub begins : pile_state memory_ghosts run.made ≡ first_state before image
   pub words : (a : ℕ) → a < length before * 8 → (memory_of after).word a ≡ (pile_state memory_ghosts run.pile).settled.word a
   pub others : OnlyWordsDiffer before after
   -- the writes that wait in the end are handed back, the oldest first, and the printed number counts them
-  pub waits : queued held.queue ≡ (pile_state memory_ghosts run.pile).waiting
-  pub counts_them : waiting ≡ length (queued held.queue)
+  pub waits : queued remains.queue ≡ (pile_state memory_ghosts run.pile).waiting
+  pub counts_them : waiting ≡ length (queued remains.queue)
   -- and the directory answers as the cache of the pile does
-  pub directory : (set way : ℕ) → inspect_answer (model held.tables).dir card_floor set way ≡ inspect_answer (tables_of run.pile).dir (pile_floor memory_ghosts run.pile) set way
-  pub valid : valid_ways (model held.tables).dir ≡ valid_ways (tables_of run.pile).dir
+  pub directory : (set way : ℕ) → inspect_answer (model remains.tables).dir card_floor set way ≡ inspect_answer (tables_of run.pile).dir (pile_floor memory_ghosts run.pile) set way
+  pub valid : valid_ways (model remains.tables).dir ≡ valid_ways (tables_of run.pile).dir

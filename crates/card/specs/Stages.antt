@@ -16,7 +16,7 @@ use Rattle.cache.specs.Doing.{tables_of, cache_ghosts}
 use Rattle.book.specs.declared.answer.Mode.{Mode}
 use Rattle.book.specs.declared.answer.Answer.{Answer}
 use Rattle.book.specs.Promise.{NeverAnOldDigit}
-use Rattle.card.specs.declared.stages.Held.{Held}
+use Rattle.card.specs.declared.stages.Remains.{Remains}
 
 -- What the buffer means over a memory, and what the cache means over the buffer; and what their calls do.
 abbrev pub buffer_ghosts : {P : Type 0} (G : Ghosts P) → Ghosts (WriteBuffer P G)
@@ -48,15 +48,15 @@ pub record Reached {P : Type 0} (does : P → Step → P → Type 0) (p q : P) :
 
 -- Calls run on a board over fresh stages on a memory: the promise about old digits holds of the whole pile. The memory that is
 -- handed back is the one at the bottom of the pile, and was changed by nothing but calls of its own.
-pub record RunOnTheStages {P : Type 0} (G : Ghosts P) (memory : P) (cs : List Call) (rs : List (Result Answer Fault)) (waiting : ℕ) (held : Held) (left : P) : Type 0 where
+pub record RunOnTheStages {P : Type 0} (G : Ghosts P) (memory : P) (cs : List Call) (rs : List (Result Answer Fault)) (waiting : ℕ) (remains : Remains) (left : P) : Type 0 where
   pub made : Pile G
   pub fresh : Fresh memory made
   pub mode : Mode
   pub pile : Pile G
   pub handed : pile.below.below ≡ left
   -- the writes that wait in the queue, and the tables, are those of the pile
-  pub queue : held.queue ≡ pile.below.queue
-  pub tables : held.tables ≡ pile.tables
+  pub queue : remains.queue ≡ pile.below.queue
+  pub tables : remains.tables ≡ pile.tables
   pub promise : NeverAnOldDigit (pile_ghosts G) made cs rs mode pile
   pub counted : waiting ≡ waiting_answer (pile_state G pile)
   pub reached : Reached G.does memory left

@@ -7,20 +7,20 @@ ghost use Rattle.cache.specs.Doing.{inspect_answer};
 ghost use Rattle.card.specs.Card.{card_floor};
 ghost use Rattle.card.specs.Stages.{pile_state, RunOnTheStages};
 
-use board::{Board, NoRoom, run, run_in};
+use board::{Board, NoRoom, room_for, run_in};
 use book::Answer;
-use cache::Cache;
+use cache::{Cache, inspect};
 use cache_tables::Tables;
 use calls::Call;
 use directory::WayState;
-use fault::{Fault, Refusal};
+use fault::Fault;
 use port::Port;
 use std::alloc::{AllocFailed, Global};
 use write_buffer::{Queue, WriteBuffer};
 
 /// What the stages hold when they are taken off a memory: the writes that wait still, and the tables of the cache.
 #[derive(Drop)]
-pub struct Held {
+pub struct Remains {
     pub queue: Queue,
     pub tables: Tables,
 }
@@ -28,16 +28,12 @@ pub struct Held {
 /// The floor of the card's cache, which stands on a buffer, a map and the banks.
 const CACHE_FLOOR: u8 = 3;
 
-impl Held {
+impl Remains {
     /// What stands in a way of a set, as the card's cache tells it. Both are numbers, since any number is answered.
     pub fn inspect(&self, set: u32, way: u32) -> Result<WayState, Fault>
         ensures { result ≡ inspect_answer (model self.now.tables).dir card_floor set way }
     {
-        self.tables.directory.inspect(set, way).ok_or(Fault {
-            refusal: Refusal::PastEnd,
-            place: set,
-            floor: CACHE_FLOOR,
-        })
+        inspect(&self.tables, CACHE_FLOOR, set, way)
     }
 
     /// How many ways of the cache are valid.
@@ -52,7 +48,7 @@ impl Held {
 #[derive(Drop)]
 pub struct StagesRun<M: Port> {
     pub memory: M,
-    pub held: Held,
+    pub remains: Remains,
     pub answers: Vec<Result<Answer, Fault>>,
     pub waiting: u32,
 }
@@ -61,15 +57,15 @@ pub struct StagesRun<M: Port> {
 #[derive(Drop)]
 pub struct StagesLeft<M: Port> {
     pub memory: M,
-    pub held: Held,
+    pub remains: Remains,
     pub waiting: u32,
 }
 
 // Takes the stages off the memory, with all that they hold.
 fn take_off<M: Port>(board: Board<Cache<WriteBuffer<M>>>) -> StagesLeft<M>
     ensures memory { result.memory ≡ board.port.below.below }
-    ensures queue { result.held.queue ≡ board.port.below.queue }
-    ensures tables { result.held.tables ≡ board.port.tables }
+    ensures queue { result.remains.queue ≡ board.port.below.queue }
+    ensures tables { result.remains.tables ≡ board.port.tables }
     ensures waiting { result.waiting ≡ waiting_answer (pile_state M.Port board.port) }
 {
     let waiting = board.waiting();
@@ -77,7 +73,7 @@ fn take_off<M: Port>(board: Board<Cache<WriteBuffer<M>>>) -> StagesLeft<M>
     let (memory, queue) = buffer.into_parts();
     StagesLeft {
         memory,
-        held: Held { queue, tables },
+        remains: Remains { queue, tables },
         waiting,
     }
 }
@@ -89,40 +85,46 @@ pub fn run_on_stages_in<M: Port>(
     calls: &[Call],
     room: &mut [Result<Answer, Fault>],
 ) -> Result<StagesLeft<M>, NoRoom<M>>
-    ensures promise { MatchResult result (λ left. RunOnTheStages M.Port memory calls.now (take (length calls.now) room.new) left.waiting left.held left.memory) (λ none. none.port ≡ memory) }
+    ensures promise { MatchResult result (λ left. RunOnTheStages M.Port memory calls.now (take (length calls.now) room.new) left.waiting left.remains left.memory) (λ none. none.port ≡ memory) }
     ensures refused { MatchResult result (λ _. length calls.now ≤ length room.old) (λ _. length room.old < length calls.now) }
     ensures beyond { MatchResult result (λ _. drop (length calls.now) room.new ≡ drop (length calls.now) room.old) (λ _. room.new ≡ room.old) }
+    ensures size { length room.new ≡ length room.old }
 {
     match run_in(Cache::new(WriteBuffer::new(memory)), calls, room) {
         Ok(board) => Ok(take_off(board)),
-        Err(none) => {
-            let (memory, _) = none.port.into_below().into_parts();
-            Err(NoRoom { port: memory })
-        }
+        Err(none) => Err(NoRoom {
+            port: none.port.into_parts().0.into_parts().0,
+        }),
     }
 }
 
-/// Runs calls on a board over a cache over a write buffer over a memory, and hands the memory back.
+/// The same, with room of its own for the answers. Where there is no memory for them no call is made, and the memory comes back as it was.
 pub fn run_on_stages<M: Port>(
     alloc: Global,
     memory: M,
     calls: &[Call],
 ) -> Result<StagesRun<M>, AllocFailed<M>>
-    ensures { MatchResult result (λ ran. RunOnTheStages M.Port memory calls.now ran.answers.items ran.waiting ran.held ran.memory) (λ failed. failed.value ≡ memory) }
+    ensures { MatchResult result (λ ran. RunOnTheStages M.Port memory calls.now ran.answers.items ran.waiting ran.remains ran.memory) (λ failed. failed.value ≡ memory) }
 {
-    match run(alloc, Cache::new(WriteBuffer::new(memory)), calls) {
-        Ok(outcome) => {
-            let left = take_off(outcome.board);
-            Ok(StagesRun {
-                memory: left.memory,
-                held: left.held,
-                answers: outcome.answers,
-                waiting: left.waiting,
-            })
-        }
-        Err(failed) => {
-            let (memory, _) = failed.value.into_below().into_parts();
-            Err(AllocFailed { value: memory })
-        }
+    match room_for(alloc, calls) {
+        Ok(room) => Ok(run_into(memory, calls, room)),
+        Err(_) => Err(AllocFailed { value: memory }),
+    }
+}
+
+// The same, where there is just the room for all answers.
+fn run_into<M: Port>(memory: M, calls: &[Call], room: Vec<Result<Answer, Fault>>) -> StagesRun<M>
+    requires room { length room.items ≡ length calls.now }
+    ensures { RunOnTheStages M.Port memory calls.now result.answers.items result.waiting result.remains result.memory }
+{
+    let mut answers = room;
+    match run_on_stages_in(memory, calls, &mut answers) {
+        Ok(left) => StagesRun {
+            memory: left.memory,
+            remains: left.remains,
+            answers,
+            waiting: left.waiting,
+        },
+        Err(_) => unreachable!("there is room for every answer"),
     }
 }

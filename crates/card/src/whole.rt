@@ -3,7 +3,7 @@ ghost use Rattle.std.specs.Prelude.{◌≡◌, length, Ok, MatchResult};
 ghost use Rattle.calls.specs.Whole.{Told};
 ghost use Rattle.card.specs.Card.{card_size, calls_to_run, NeverAnOldDigitOnTheCard};
 
-use super::stages::{Held, run_on_stages};
+use super::stages::{Remains, run_on_stages};
 use banks::{EpromBank, Line, RamBank, eprom_size, joint_size, ram_size};
 use book::Answer;
 use calls::{Call, Stop, read_list};
@@ -22,7 +22,7 @@ pub struct CardRun<'a> {
     /// How many writes wait in the end.
     pub waiting: u32,
     /// The writes that wait in the end, and the tables of the cache.
-    pub held: Held,
+    pub remains: Remains,
 }
 
 /// No call was run, and the caller's records are as they were.
@@ -58,7 +58,7 @@ pub fn run_card<'a>(
     list: &[u8],
 ) -> Result<CardRun<'a>, NotRun<'a>>
     ensures calls { MatchResult result (λ run. calls_to_run list.now lines.old image.now ≡ Ok run.calls.items) (λ none. Told none.stop (calls_to_run list.now lines.old image.now)) }
-    ensures promise { MatchResult result (λ run. NeverAnOldDigitOnTheCard lines.old image.now run.calls.items run.answers.items run.waiting run.held run.lines.now) (λ none. none.lines.now ≡ lines.old) }
+    ensures promise { MatchResult result (λ run. NeverAnOldDigitOnTheCard lines.old image.now run.calls.items run.answers.items run.waiting run.remains run.lines.now) (λ none. none.lines.now ≡ lines.old) }
     ensures caller { MatchResult result (λ run. run.lines.ghost_name ≡ lines.entry.ghost_name) (λ none. none.lines.ghost_name ≡ lines.entry.ghost_name) }
 {
     let calls = match calls_to_run(alloc, lines, image, list) {
@@ -74,7 +74,7 @@ pub fn run_card<'a>(
                 calls,
                 answers: ran.answers,
                 waiting: ran.waiting,
-                held: ran.held,
+                remains: ran.remains,
             })
         }
         Err(failed) => {

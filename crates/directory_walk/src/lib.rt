@@ -130,7 +130,7 @@ pub fn test_directory<P: Port>(
             Ok((outcome, walk))
         }
         Err(failed) => Err(AllocFailed {
-            value: failed.value.into_below(),
+            value: failed.value.into_parts().0,
         }),
     }
 }

@@ -31,7 +31,8 @@ fn try_pile<M: Port + Drop>(rt: &HostRuntime, memory: M) -> io::Result<()> {
             println!(rt; "set 0 way {way}: {state:?}")?;
         }
     }
-    let (_, mut queue) = cache.into_below().into_parts();
+    let (buffer, _) = cache.into_parts();
+    let (_, mut queue) = buffer.into_parts();
     for _ in 0..queue.waiting() {
         if let Some(write) = queue.pop() {
             println!(rt; "waits: {write:?}")?;

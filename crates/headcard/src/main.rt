@@ -1,7 +1,7 @@
 //! Reads a call list from standard input, runs it on the card, and prints what it came to.
 #![tactic(auto)]
 
-use card::{print_card_buffered, read_input, stock_image, stock_lines};
+use card::{print_card, read_input, stock_image, stock_lines};
 use clap::Command;
 use std::process::ExitCode;
 
@@ -26,7 +26,7 @@ fn main(rt: HostRuntime) -> anyhow::Result<ExitCode> {
     let list = read_input(alloc, rt.stdin())?;
     let mut lines = stock_lines(alloc)?;
     let image = stock_image(alloc)?;
-    let (_, written) = print_card_buffered(alloc, rt.stdout(), &mut lines, &image, &list);
+    let (_, written) = print_card(alloc, rt.stdout(), &mut lines, &image, &list);
     written?;
     Ok(ExitCode::SUCCESS)
 }
