@@ -1,5 +1,6 @@
 //! A bank of RAM on the caller's line records.
 ghost use Rattle.std.specs.Prelude.{◌≡◌, length};
+ghost use Rattle.banks.specs.Lines.{EachRecordIsALine};
 ghost use Rattle.banks.specs.Whole.{whole_lines};
 ghost use Rattle.banks.specs.Ram.{ram_state, RamDoes};
 
@@ -16,9 +17,11 @@ pub struct RamBank<'a> {
 
 impl<'a> RamBank<'a> {
     /// A bank on these records; it has no words where their number is unfit.
+    #[tactic(auto, using(crate::proofs::Numbers::each_record))]
     pub fn new(lines: &'a mut [Line]) -> RamBank<'a>
         ensures records { result.lines.now ≡ lines.old }
         ensures caller { result.lines.ghost_name ≡ lines.entry.ghost_name }
+        ensures law { EachRecordIsALine }
     {
         RamBank { lines }
     }

@@ -1,6 +1,6 @@
 //! How many words a bank or a map of what the caller has would have, or why it has none.
 ghost use Rattle.std.specs.Prelude.{◌≡◌, ◌+◌, ◌/◌, length};
-ghost use Rattle.banks.specs.Sizes.{size_of_lines, lines_of_bytes};
+ghost use Rattle.banks.specs.Sizes.{size_of_lines, lines_of_bytes, UnfitSizesHaveNoWords};
 
 use super::line::Line;
 use fault::{Fault, Refusal};
@@ -9,8 +9,10 @@ use fault::{Fault, Refusal};
 const MOST_LINES: usize = 1_048_576;
 
 /// How many words that many lines make, or why a port of them has none.
+#[tactic(auto, using(crate::proofs::Numbers::unfit_sizes))]
 pub fn size_of_lines(lines: usize) -> Result<u32, Fault>
-    ensures { result ≡ size_of_lines lines }
+    ensures value { result ≡ size_of_lines lines }
+    ensures law { UnfitSizesHaveNoWords }
 {
     if 1 <= lines && lines <= MOST_LINES {
         Ok((lines * 8) as u32)

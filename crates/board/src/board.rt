@@ -7,6 +7,7 @@ ghost use Rattle.port.specs.Meaning.{read_answer, settled_answer, marks_answer, 
 ghost use Rattle.port.specs.Steps.{Drains};
 ghost use Rattle.book.specs.declared.answer.Mode.TheVariants.{Free};
 ghost use Rattle.book.specs.Tables.{stop, place_in};
+ghost use Rattle.book.specs.Promise.{EachCallAsksThePort};
 ghost use Rattle.book.specs.Calling.{as_done, as_word, Reaches, Called, cycle_answer};
 
 use book::{Answer, Mode};
@@ -43,10 +44,12 @@ fn place_of(call: Call) -> u32
 
 impl<P: Port> Board<P> {
     /// A free board on a port, in which nothing waits any more.
+    #[tactic(auto, using(book::proofs::Modes::each_call_asks_the_port))]
     pub fn new(port: P) -> Board<P>
         ensures mode { result.mode ≡ Free }
         ensures settled { P.state result.port ≡ drained (P.state port) }
         ensures did { Drains P.state P.does port result.port }
+        ensures law { EachCallAsksThePort P.Port }
     {
         let mut port = port;
         settle_all(&mut port);

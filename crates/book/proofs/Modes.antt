@@ -10,6 +10,7 @@ use Rattle.calls.specs.declared.call.Call.TheVariants.{Read, Write as Post, Unpo
 use Rattle.calls.specs.declared.call.Cargo.{Cargo}
 use Rattle.calls.specs.declared.call.Cargo.TheVariants.{Nothing, Word as OfWord, Store as OfStore}
 use Rattle.calls.specs.Calls.{cargo_of}
+use Rattle.port.specs.declared.Port.{Ghosts}
 use Rattle.port.specs.Memory.{Memory, State, floor_above, seen}
 use Rattle.port.specs.Meaning.{laned}
 use Rattle.book.specs.declared.answer.Mode.{Mode}
@@ -18,8 +19,9 @@ use Rattle.book.specs.declared.answer.Answer.{Answer}
 use Rattle.book.specs.declared.answer.Answer.TheVariants.{Word}
 use Rattle.book.specs.Tables.{place_in, floor_for, fault_of, or_else, in_range, fits, stop, Asks, nothing, drain, advance, flush, read, peek, snoop, write, through, outside, deed, if_taken, goes_to, settles_by, Rule, none}
 use Rattle.book.specs.Book.{Book, refused, waiting_line, step, Admits, Allowed, reading, told_of, says, unless, told, answer}
+use Rattle.book.specs.Calling.{Makes, Reaches}
 use Rattle.book.specs.Runs.{Moment, moment, after, Follows, Ledger, joining_entries, leads_to, moved, mode_by}
-use Rattle.book.specs.Promise.{turned_away, told_at, AnsweredIn, AllIn, settles_at}
+use Rattle.book.specs.Promise.{turned_away, told_at, AnsweredIn, AllIn, AsksThePort, EachCallAsksThePort, settles_at}
 use Rattle.book.proofs.Records.{Tells, joined_is}
 use Rattle.book.proofs.Locks.{Held}
 
@@ -329,3 +331,31 @@ as_many m p b l x a h allowed e ok =
     let F : Rule → Type 0 = λ r. Admits r (length (waiting_line b x.call)) x.count in
     let N : ℕ → Type 0 = λ n. Admits (settles_at x.call) n x.count in
     subst N (sym size) (subst F rule allowed)
+
+-- WHAT THE PORT IS ASKED
+
+asked_is : {P : Type 0} (G : Ghosts P) (c : Call) (p q : P) → Makes G c p q → AsksThePort G c p q
+asked_is G (Read w) p q h = h
+asked_is G (Post s) p q h = h
+asked_is G (Unposted s) p q h = h
+asked_is G Advance p q h = h
+asked_is G Lock p q h = h
+asked_is G (LockedRead w) p q h = h
+asked_is G (LockedWrite s) p q h = h
+asked_is G Unlock p q h = h
+asked_is G Ask p q h = h
+asked_is G (MasterRead w) p q h = h
+asked_is G (MasterWrite s) p q h = h
+asked_is G Give p q h = h
+asked_is G (Snoop w) p q h = h
+asked_is G Flush p q h = h
+
+pub each_call_asks_the_port : {P : Type 0} (G : Ghosts P) → EachCallAsksThePort G
+each_call_asks_the_port G = record {
+  taken = λ m n p q c r h t.
+      let F : Option Refusal → Type 0 = λ o. Reaches o (Makes G c p q) (q ≡ p) in
+      asked_is G c p q (subst F (sym (turned_is c m) ∙ t) h.made);
+  turned = λ m n p q c r x h t.
+      let F : Option Refusal → Type 0 = λ o. Reaches o (Makes G c p q) (q ≡ p) in
+      subst F (sym (turned_is c m) ∙ t) h.made;
+}

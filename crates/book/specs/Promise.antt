@@ -9,7 +9,8 @@ use Rattle.calls.specs.declared.call.Call.TheVariants.{Read, Write as Post, Unpo
 use Rattle.port.specs.Lanes.{Lane, byte, covers}
 use Rattle.port.specs.declared.Port.{Ghosts}
 use Rattle.port.specs.Memory.{State, floor_above, seen, applied, drained, line_of}
-use Rattle.port.specs.Steps.{Drains}
+use Rattle.port.specs.Meaning.{read_answer, write_answer, snoop_answer}
+use Rattle.port.specs.Steps.{reads, writes, advances, outsides, snoops, flushes, Chain, Drains, Through}
 use Rattle.book.specs.declared.answer.Mode.{Mode}
 use Rattle.book.specs.declared.answer.Mode.TheVariants.{Free, Locked, Granted}
 use Rattle.book.specs.declared.answer.Answer.{Answer}
@@ -126,6 +127,30 @@ AnswersKeepTheModes start run =
 abbrev pub AllIn : ℕ → Mode → List Moment → Type 0
 AllIn floor n [] = Unit {0}
 AllIn floor n (m ∷ ms) = AnsweredIn floor n m × AllIn floor n ms
+
+-- WHAT THE PORT IS ASKED
+
+-- By each call that is taken: calls of its own kind with the answers that the port gives, advances while a write waits, or nothing at all.
+abbrev pub AsksThePort : {P : Type 0} → Ghosts P → Call → P → P → Type 0
+AsksThePort G (Read w) p q = Chain G.does p (reads w (read_answer (G.state p) w) ∷ []) q
+AsksThePort G (Post s) p q = Chain G.does p (writes s (write_answer (G.state p) s) ∷ []) q
+AsksThePort G (Unposted s) p q = Through G.state G.does s (write_answer (G.state p) s) p q
+AsksThePort G Advance p q = Chain G.does p (advances ∷ []) q
+AsksThePort G Lock p q = Drains G.state G.does p q
+AsksThePort G (LockedRead w) p q = q ≡ p
+AsksThePort G (LockedWrite s) p q = Through G.state G.does s (write_answer (G.state p) s) p q
+AsksThePort G Unlock p q = q ≡ p
+AsksThePort G Ask p q = q ≡ p
+AsksThePort G (MasterRead w) p q = q ≡ p
+AsksThePort G (MasterWrite s) p q = Chain G.does p (outsides s (write_answer (G.state p) s) ∷ []) q
+AsksThePort G Give p q = q ≡ p
+AsksThePort G (Snoop w) p q = Chain G.does p (snoops w (snoop_answer (G.state p) w) ∷ []) q
+AsksThePort G Flush p q = Chain G.does p (flushes ∷ []) q
+
+-- A call that the mode turns away asks for nothing.
+pub record EachCallAsksThePort {P : Type 0} (G : Ghosts P) : Type 0 where
+  pub taken : (m n : Mode) (p q : P) (c : Call) (r : Result Answer Fault) → Called G m p c r n q → turned_away c m ≡ None → AsksThePort G c p q
+  pub turned : (m n : Mode) (p q : P) (c : Call) (r : Result Answer Fault) (x : Refusal) → Called G m p c r n q → turned_away c m ≡ Some x → q ≡ p
 
 -- UNDER A LOCK, read off the calls and their answers
 

@@ -1,3 +1,4 @@
 pub mod Reading
 pub mod Codec
 pub mod Refusing
+pub mod Trying

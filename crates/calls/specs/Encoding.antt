@@ -50,6 +50,24 @@ bytes_of (w ∷ ws) = w % 2 ^ 8 ∷ w / 2 ^ 8 % 2 ^ 8 ∷ w / 2 ^ 16 % 2 ^ 8 ∷
 abbrev pub encode : List Call → List ℕ
 encode calls = bytes_of (list_words calls)
 
+-- Each kind of call in its list words, and a list word in its bytes.
+pub record WorkedList : Type 0 where
+  pub read : call_words (Read 5) ≡ 0x00000005 ∷ []
+  pub write : call_words (Write (record { word = 2; lanes = 3; value = 0x0109 })) ≡ 0x11800002 ∷ 0xf0000109 ∷ []
+  pub unposted : call_words (Unposted (record { word = 2; lanes = 1; value = 9 })) ≡ 0x20800002 ∷ 0xf0000009 ∷ []
+  pub advance : call_words Advance ≡ 0x30000000 ∷ []
+  pub lock : call_words Lock ≡ 0x40000000 ∷ []
+  pub locked_read : call_words (LockedRead 5) ≡ 0x50000005 ∷ []
+  pub locked_write : call_words (LockedWrite (record { word = 2; lanes = 2; value = 9 })) ≡ 0x61000002 ∷ 0xf0000009 ∷ []
+  pub unlock : call_words Unlock ≡ 0x70000000 ∷ []
+  pub ask : call_words Ask ≡ 0x80000000 ∷ []
+  pub master_read : call_words (MasterRead 5) ≡ 0x90000005 ∷ []
+  pub master_write : call_words (MasterWrite (record { word = 2; lanes = 0; value = 9 })) ≡ 0xa0000002 ∷ 0xf0000009 ∷ []
+  pub give : call_words Give ≡ 0xb0000000 ∷ []
+  pub snoop : call_words (Snoop 5) ≡ 0xc0000005 ∷ []
+  pub flush : call_words Flush ≡ 0xd0000000 ∷ []
+  pub low_byte_first : bytes_of (0x11800002 ∷ []) ≡ 0x02 ∷ 0x00 ∷ 0x80 ∷ 0x11 ∷ []
+
 -- The parts of a call fit their bits.
 abbrev pub CargoFits : Cargo → Type 0
 CargoFits Nothing = Unit {0}

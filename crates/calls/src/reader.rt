@@ -1,6 +1,7 @@
 //! The reader that takes a list apart, call by call.
 ghost use Rattle.std.specs.Prelude.{◌≡◌, ℕ, ◌+◌, ◌/◌, ◌^◌, ◌<◌, ◌≤◌, length, MatchOption};
 ghost use Rattle.calls.specs.Words.{word_of, words_from};
+ghost use Rattle.calls.specs.Encoding.{WorkedList};
 ghost use Rattle.calls.specs.Format.{target_in, value_in, store_in, call_in, bare_call, first_of, next_in, stride};
 
 use super::call::Call;
@@ -162,9 +163,11 @@ impl Front {
 
 impl<'a> Reader<'a> {
     /// A reader at the front of a list.
+    #[tactic(auto, using(crate::proofs::Trying::worked_list))]
     pub fn new(bytes: &'a [u8]) -> Reader<'a>
         ensures list { result.bytes.now ≡ bytes.now }
         ensures start { result.index ≡ 0 }
+        ensures examples { WorkedList }
     {
         Reader { bytes, index: 0 }
     }

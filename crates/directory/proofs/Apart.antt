@@ -12,6 +12,7 @@ use Rattle.directory.specs.Dirs.{Dir, set_of, tag_of, emptied, put, holds, found
 use Rattle.port.specs.Memory.{line_of, offset_of}
 use Rattle.directory.specs.Laws.{TagsAreApart, OneWayHoldsALine, InstallKeepsOtherLines, DropForgetsOneLine, ChangeMovesNoLine}
 use Rattle.directory.proofs.Numbering.{index_injective}
+use Rattle.directory.proofs.Sparing.{touch_touches}
 
 twin_sym : (x y : Option Way) → twin_ways x y ≡ false → twin_ways y x ≡ false
 twin_sym x y e = grind (arith, nat_tests)
@@ -132,6 +133,7 @@ module _ (d : Dir) (line : ℕ) (k : WayNumber) (protect : Bool) (words : List �
   install_keeps = record {
     new = finds (installed d line k protect words) (apart_installed d line k protect words a e) line k
         (ap (has_tag (tag_of line)) (put_here d (set_of line) k (Some (filled_way (tag_of line) protect words)) (set_of line) k refl refl) ∙ eq-eqb (tag_of line) (tag_of line) refl);
+    touch = touch_touches d (put d (set_of line) k (Some (filled_way (tag_of line) protect words))) line k refl;
     others = λ other j f n. finds (installed d line k protect words) (apart_installed d line k protect words a e) other j
         (ap (has_tag (tag_of other)) (unmoved other j n) ∙ held d other j f);
   }

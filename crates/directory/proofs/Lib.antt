@@ -5,3 +5,4 @@ pub mod Apart
 pub mod Changing
 pub mod Looking
 pub mod Sparing
+pub mod Telling

@@ -51,9 +51,10 @@ pub record OnlyBitsOfOneSet (before after : Dir) (i : ℕ) : Type 0 where
   pub ways : after.way ≡ before.way
   pub others : (j : ℕ) → j ≢ i → after.lru j ≡ before.lru j
 
--- A line just installed is found in its way, and every other line that was found and not replaced is found where it was.
+-- A line just installed is found in its way, which is touched, and every other line that was found and not replaced is found where it was.
 pub record InstallKeepsOtherLines (before after : Dir) (line : ℕ) (k : WayNumber) : Type 0 where
   pub new : found after line ≡ Some k
+  pub touch : WayIsTouched before after line k
   pub others : (other : ℕ) (j : WayNumber) → found before other ≡ Some j → (set_of other ≡ set_of line → j ≢ k) → found after other ≡ Some j
 
 -- A line just dropped is not found, and every other line is found where it was.

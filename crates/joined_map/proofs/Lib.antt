@@ -1,2 +1,3 @@
 pub mod Joints
 mod Sides
+mod Order

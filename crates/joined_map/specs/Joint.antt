@@ -1,5 +1,5 @@
 -- A map of two ports, the high one after the low one, as one port on which nothing waits.
-use Rattle.std.specs.Prelude.{◌≡◌, ℕ, ◌+◌, ◌-◌, ◌/◌, max, cond, [], Ok, Err, Result, nat_lt}
+use Rattle.std.specs.Prelude.{◌≡◌, ℕ, ◌+◌, ◌-◌, ◌*◌, ◌/◌, ◌%◌, ◌<◌, ◌≤◌, max, cond, [], Ok, Err, Result, nat_lt}
 use Rattle.fault.specs.declared.Fault.{Fault}
 use Rattle.port.specs.declared.Store.{Store}
 use Rattle.port.specs.Memory.{State, floor_above}
@@ -27,6 +27,21 @@ joint_state a b = record {
   };
   waiting = [];
 }
+
+-- Words and lines of the low side keep their numbers, those of the high side come after them. All of both are there, if that is no more than
+-- a port may have. The floor is one above the higher side's.
+pub record HighFollowsLow (a b : State) : Type 0 where
+  pub all : a.facts.words % 8 ≡ 0 → b.facts.words % 8 ≡ 0 → 1 ≤ a.facts.words + b.facts.words → a.facts.words + b.facts.words ≤ 8388608 →
+      (joint_state a b).facts.words ≡ a.facts.words + b.facts.words
+  pub none : 8388608 < a.facts.words + b.facts.words → a.facts.words % 8 ≡ 0 → b.facts.words % 8 ≡ 0 → (joint_state a b).facts.words ≡ 0
+  pub low_word : (w : ℕ) → w < a.facts.words → ((joint_state a b).settled.word w ≡ a.settled.word w) × ((joint_state a b).settled.readable w ≡ a.settled.readable w)
+  pub high_word : (w : ℕ) →
+      ((joint_state a b).settled.word (a.facts.words + w) ≡ b.settled.word w) × ((joint_state a b).settled.readable (a.facts.words + w) ≡ b.settled.readable w)
+  pub low_line : (k : ℕ) → k * 8 + 8 ≤ a.facts.words → ((joint_state a b).facts.cacheable k ≡ a.facts.cacheable k) × ((joint_state a b).protected k ≡ a.protected k)
+  pub high_line : (k : ℕ) →
+      ((joint_state a b).facts.cacheable (a.facts.words / 8 + k) ≡ b.facts.cacheable k) × ((joint_state a b).protected (a.facts.words / 8 + k) ≡ b.protected k)
+  pub floor_low : b.facts.floor ≤ a.facts.floor → (joint_state a b).facts.floor ≡ floor_above a.facts.floor
+  pub floor_high : a.facts.floor ≤ b.facts.floor → (joint_state a b).facts.floor ≡ floor_above b.facts.floor
 
 -- Nothing waits on either side.
 pub record Still (a b : State) : Type 0 where

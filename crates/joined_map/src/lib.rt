@@ -3,7 +3,7 @@
 
 ghost use Rattle.std.specs.Prelude.{◌≡◌, ◌+◌, ◌/◌, ◌%◌, ◌^◌, ◌<◌, IfErr};
 ghost use Rattle.banks.specs.Sizes.{size_of_lines, words_of_lines};
-ghost use Rattle.joined_map.specs.Joint.{Still, joint_floor};
+ghost use Rattle.joined_map.specs.Joint.{Still, HighFollowsLow, joint_floor};
 
 use banks::joint_size;
 use fault::Fault;
@@ -25,8 +25,10 @@ pub struct JoinedMap<L: Port, H: Port> {
 }
 
 /// How many words a map of these two ports has, or why it has none.
+#[tactic(auto, using(crate::proofs::Order::high_follows_low))]
 pub fn map_size<L: Port, H: Port>(low: &L, high: &H) -> Result<u32, Fault>
-    ensures { result ≡ size_of_lines (((L.state low.now).facts.words + (H.state high.now).facts.words) / 8) }
+    ensures law { HighFollowsLow (L.state low.now) (H.state high.now) }
+    ensures value { result ≡ size_of_lines (((L.state low.now).facts.words + (H.state high.now).facts.words) / 8) }
 {
     joint_size(low.words(), high.words())
 }

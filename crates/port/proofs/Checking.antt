@@ -1,11 +1,11 @@
 -- What an answer says of a call that was accepted, and what the checks come to.
-use Rattle.std.proofs.Common.{◌≡◌, ℕ, ◌<◌, ◌≤◌, ◌⊎◌, Bool, true, false, cond, ltb, Ok, Err, Result, sym, ap, ◌∙◌, subst, ap₂, inl, inr, arith}
+use Rattle.std.proofs.Common.{◌≡◌, ℕ, ◌/◌, ◌<◌, ◌≤◌, ◌⊎◌, Bool, true, false, cond, ltb, Ok, Err, Result, sym, ap, ◌∙◌, subst, ap₂, inl, inr, arith}
 use Rattle.std.proofs.lemmas.Bool.Decides.{nat_tests}
 use Rattle.std.specs.Result.{result_and}
 use Rattle.fault.specs.declared.Fault.{Fault}
 use Rattle.port.specs.Memory.{Memory, Facts, seen}
 use Rattle.port.specs.Meaning.{laned, told, past_end, bad_lanes, unreadable, ByAnswer}
-use Rattle.port.specs.Laws.{RefusedInOrder, LanesReplaceBytes}
+use Rattle.port.specs.Laws.{RefusedInOrder, CountsStop, LanesReplaceBytes}
 
 abbrev pub Answer : Type 0
 Answer = Result (Unit {0}) Fault
@@ -51,8 +51,15 @@ refused_in_order = record {
   read_past = λ s a h. ap (λ (r : Answer). result_and r (cond ((seen s).readable a) (Ok ((seen s).word a)) (Err (unreadable a)))) (out_test a s.facts.words (past_end a s.facts.floor) h);
   unreadable = λ s a. tell s.facts (seen s) a false;
   read = λ s a. tell s.facts (seen s) a true;
+  snoop_past = λ s a h. out_test a s.facts.words (past_end a s.facts.floor) h;
+  snooped = λ s a h. in_test a s.facts.words (past_end a s.facts.floor) h;
+  marks_past = λ s k h. ap (λ (r : Answer). result_and r (Ok (s.facts.cacheable k, s.protected k))) (out_test k (s.facts.words / 8) (past_end k s.facts.floor) (omega arith));
+  marks = λ s k h. ap (λ (r : Answer). result_and r (Ok (s.facts.cacheable k, s.protected k))) (in_test k (s.facts.words / 8) (past_end k s.facts.floor) (omega arith));
   settled = λ s a. tell s.facts s.settled a true;
 }
+
+pub counts_stop : CountsStop
+counts_stop = record { floor = λ n h. omega arith; top = λ n h. omega arith; waiting = λ s h. omega arith; many = λ s h. omega arith }
 
 pub lanes_replace_bytes : LanesReplaceBytes
 lanes_replace_bytes = record { low = λ h l g k a b. omega arith; high = λ h l g k a b. omega arith; both = λ h l g k a b. omega arith }

@@ -1,10 +1,10 @@
 -- The laws that every stage rests on.
-use Rattle.std.specs.Prelude.{◌≡◌, ℕ, ◌+◌, ◌*◌, ◌<◌, ◌≤◌, true, false, ◌⊎◌, List, [], Ok, Err}
+use Rattle.std.specs.Prelude.{◌≡◌, ℕ, ◌+◌, ◌*◌, ◌<◌, ◌≤◌, true, false, ◌⊎◌, List, [], length, Ok, Err}
 use Rattle.fault.specs.declared.Refusal.TheVariants.{PastEnd, BadLanes, Unreadable}
 use Rattle.port.specs.declared.Store.{Store}
 use Rattle.port.specs.Lanes.{merged}
-use Rattle.port.specs.Memory.{State, seen, posted, drained}
-use Rattle.port.specs.Meaning.{read_answer, settled_answer, write_answer, Settles}
+use Rattle.port.specs.Memory.{State, floor_above, seen, posted, drained}
+use Rattle.port.specs.Meaning.{read_answer, settled_answer, write_answer, snoop_answer, marks_answer, waiting_answer, Settles}
 
 pub record SettlingIsNeverSeen : Type 0 where
   -- settling and settling again is settling
@@ -17,7 +17,8 @@ pub record SettlingIsNeverSeen : Type 0 where
   pub ends : (s t : State) → Settles s t → t.waiting ≡ [] → t ≡ drained s
 
 -- A write is refused past the end whatever its lanes, else for lanes that are none, each on the floor of the port that was called. A read is
--- refused past the end, else on floor 0 for a word that cannot be read.
+-- refused past the end, else on floor 0 for a word that cannot be read. A snoop is refused past the end, and so is a question for the marks
+-- of a line that the port has not whole.
 pub record RefusedInOrder : Type 0 where
   pub past : (s : State) (w : Store) → s.facts.words ≤ w.word → write_answer s w ≡ Err (record { refusal = PastEnd; place = w.word; floor = s.facts.floor })
   pub lanes : (s : State) (w : Store) → w.word < s.facts.words → (w.lanes ≡ 0) ⊎ (3 < w.lanes) → write_answer s w ≡ Err (record { refusal = BadLanes; place = w.word; floor = s.facts.floor })
@@ -25,7 +26,18 @@ pub record RefusedInOrder : Type 0 where
   pub read_past : (s : State) (a : ℕ) → s.facts.words ≤ a → read_answer s a ≡ Err (record { refusal = PastEnd; place = a; floor = s.facts.floor })
   pub unreadable : (s : State) (a : ℕ) → a < s.facts.words → (seen s).readable a ≡ false → read_answer s a ≡ Err (record { refusal = Unreadable; place = a; floor = 0 })
   pub read : (s : State) (a : ℕ) → a < s.facts.words → (seen s).readable a ≡ true → read_answer s a ≡ Ok ((seen s).word a)
+  pub snoop_past : (s : State) (a : ℕ) → s.facts.words ≤ a → snoop_answer s a ≡ Err (record { refusal = PastEnd; place = a; floor = s.facts.floor })
+  pub snooped : (s : State) (a : ℕ) → a < s.facts.words → snoop_answer s a ≡ Ok tt
+  pub marks_past : (s : State) (k : ℕ) → s.facts.words < k * 8 + 8 → marks_answer s k ≡ Err (record { refusal = PastEnd; place = k; floor = s.facts.floor })
+  pub marks : (s : State) (k : ℕ) → k * 8 + 8 ≤ s.facts.words → marks_answer s k ≡ Ok (s.facts.cacheable k, s.protected k)
   pub settled : (s : State) (a : ℕ) → a < s.facts.words → s.settled.readable a ≡ true → settled_answer s a ≡ Ok (s.settled.word a)
+
+-- Floors count the stages below, up to 255, and a waiting count is the length of the waiting line, up to 4,294,967,295.
+pub record CountsStop : Type 0 where
+  pub floor : (n : ℕ) → n < 255 → floor_above n ≡ n + 1
+  pub top : (n : ℕ) → 255 ≤ n → floor_above n ≡ 255
+  pub waiting : (s : State) → length s.waiting ≤ 4294967295 → waiting_answer s ≡ length s.waiting
+  pub many : (s : State) → 4294967295 ≤ length s.waiting → waiting_answer s ≡ 4294967295
 
 -- Of a word's two bytes, lanes 1 replace the low one, 2 the high one, and 3 both.
 pub record LanesReplaceBytes : Type 0 where

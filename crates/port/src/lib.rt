@@ -7,7 +7,7 @@ ghost use Rattle.port.specs.Memory.{State, WholeLines, seen, posted, drained, ou
 ghost use Rattle.port.specs.Meaning.{within, writable, read_answer, settled_answer, write_answer, snoop_answer, marks_answer, waiting_answer, Settles, Advances, ByAnswer, Kept};
 ghost use Rattle.port.specs.Checks.{InRange, Writable};
 ghost use Rattle.port.specs.Steps.{Step, reads, writes, advances, outsides, snoops, flushes, Drains, Through};
-ghost use Rattle.port.specs.Laws.{SettlingIsNeverSeen, RefusedInOrder, LanesReplaceBytes};
+ghost use Rattle.port.specs.Laws.{SettlingIsNeverSeen, RefusedInOrder, CountsStop, LanesReplaceBytes};
 
 use fault::{Fault, Refusal};
 
@@ -148,9 +148,11 @@ pub trait Port {
 }
 
 /// Refuses a word past the end, on the floor of a stage over the port.
+#[tactic(auto, using(crate::proofs::Checking::counts_stop))]
 pub fn check_above<P: Port>(below: &P, word: u32) -> Result<(), Fault>
     ensures value { result ≡ snoop_answer (raised (P.state below.now)) word }
     ensures passed { OnOk result (InRange (P.state below.now) word) }
+    ensures law { CountsStop }
 {
     check_range(word, below.words(), below.floor().saturating_add(1))
 }

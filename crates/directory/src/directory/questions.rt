@@ -4,7 +4,7 @@ ghost use Rattle.std.specs.Option.{option_map};
 ghost use Rattle.port.specs.Memory.{line_of, offset_of};
 ghost use Rattle.directory.specs.Touch.{victim_of};
 ghost use Rattle.directory.specs.Dirs.{found, set_of, valid_ways};
-ghost use Rattle.directory.specs.View.{view, inspected};
+ghost use Rattle.directory.specs.View.{view, inspected, TellsWhatStands};
 ghost use Rattle.directory.specs.Laws.{OneWayHoldsALine};
 
 use super::{Directory, SETS, set_of, tag_of};
@@ -52,8 +52,10 @@ impl Directory {
     }
 
     /// What stands in a way of a set, or nothing where there is no such set or way. The way is a number here, since any number is answered.
+    #[tactic(auto, using(crate::proofs::Telling::tells_what_stands))]
     pub fn inspect(&self, set: u32, way: u32) -> Option<WayState>
-        ensures { result ≡ inspected (view self.now) set way }
+        ensures value { result ≡ inspected (view self.now) set way }
+        ensures law { TellsWhatStands (view self.now) }
     {
         if set >= SETS {
             return None;
