@@ -1,5 +1,5 @@
 -- Modes, answers and counts, as they are read off a run.
-use Rattle.std.proofs.Common.{ap₂, ◌≡◌, ℕ, ◌≤◌, ltb, Bool, true, false, cond, List, [], ◌∷◌, ◌++◌, length, Some, None, Ok, Err, Option, Result, sym, refl, ap, ◌∙◌, subst, arith}
+use Rattle.std.proofs.Common.{ap₂, ◌≡◌, ℕ, ◌≤◌, ltb, Bool, true, false, cond, List, [], ◌∷◌, ◌++◌, length, Some, None, Ok, Err, Option, Result, sym, refl, ap, ◌∙◌, subst, inl, inr, ◌⊎◌, arith}
 use Rattle.std.proofs.lemmas.List.{length-map}
 use Rattle.fault.specs.declared.Fault.{Fault}
 use Rattle.fault.specs.declared.Refusal.{Refusal}
@@ -16,12 +16,12 @@ use Rattle.port.specs.Meaning.{laned}
 use Rattle.book.specs.declared.answer.Mode.{Mode}
 use Rattle.book.specs.declared.answer.Mode.TheVariants.{Free, Locked, Granted}
 use Rattle.book.specs.declared.answer.Answer.{Answer}
-use Rattle.book.specs.declared.answer.Answer.TheVariants.{Word}
-use Rattle.book.specs.Tables.{place_in, floor_for, fault_of, or_else, in_range, fits, stop, Asks, nothing, drain, advance, flush, read, peek, snoop, write, through, outside, deed, if_taken, goes_to, settles_by, Rule, none}
+use Rattle.book.specs.declared.answer.Answer.TheVariants.{Done, Word}
+use Rattle.book.specs.Tables.{Takers, every, unlocked, free, locked, granted, stopped, place_in, floor_for, fault_of, or_else, in_range, fits, stop, Asks, nothing, drain, advance, flush, read, peek, snoop, write, through, outside, deed, if_taken, goes_to, settles_by, Rule, none}
 use Rattle.book.specs.Book.{Book, refused, waiting_line, step, Admits, Allowed, reading, told_of, says, unless, told, answer}
 use Rattle.book.specs.Calling.{Makes, Reaches}
 use Rattle.book.specs.Runs.{Moment, moment, after, Follows, Ledger, joining_entries, leads_to, moved, mode_by}
-use Rattle.book.specs.Promise.{turned_away, told_at, AnsweredIn, AllIn, AsksThePort, EachCallAsksThePort, settles_at}
+use Rattle.book.specs.Promise.{in_mode, turned_away, told_at, AnsweredIn, AllIn, AsksThePort, EachCallAsksThePort, settles_at}
 use Rattle.book.proofs.Records.{Tells, joined_is}
 use Rattle.book.proofs.Locks.{Held}
 
@@ -84,126 +84,78 @@ mild_told floor c (Some x) r fault h k e = let same : x ≡ fault.refusal = cc i
 mild_told floor c None (Err x) fault h k e = let same : x ≡ fault.refusal = cc in subst (λ (y : Refusal). number_of y ≤ 3) same (k x refl)
 mild_told floor c None (Ok a) fault h k e = absurd (cc)
 
--- the plain tables are those of the deeds
+-- THE PLAIN TABLES ARE THOSE OF THE DEEDS, a row for each call
+
+abbrev Turns : (Mode → Option Refusal) → Takers → Type 0
+Turns plain takers = (m : Mode) → plain m ≡ stopped takers m
+
+every_turns : Turns (in_mode None None None) every
+every_turns Free = refl
+every_turns Locked = refl
+every_turns Granted = refl
+
+unlocked_turns : Turns (in_mode None (Some IsLocked) None) unlocked
+unlocked_turns Free = refl
+unlocked_turns Locked = refl
+unlocked_turns Granted = refl
+
+free_turns : Turns (in_mode None (Some IsLocked) (Some IsGranted)) free
+free_turns Free = refl
+free_turns Locked = refl
+free_turns Granted = refl
+
+locked_turns : Turns (in_mode (Some NotLocked) None (Some NotLocked)) locked
+locked_turns Free = refl
+locked_turns Locked = refl
+locked_turns Granted = refl
+
+granted_turns : Turns (in_mode (Some NotGranted) (Some NotGranted) None) granted
+granted_turns Free = refl
+granted_turns Locked = refl
+granted_turns Granted = refl
+
+record Plain (c : Call) : Type 0 where
+  turned : Turns (turned_away c) (deed c).takers
+  place : place_in (cargo_of c) ≡ told_at c
+  settles : settles_at c ≡ settles_by c
+  leads : (n : Mode) → goes_to n c ≡ leads_to n c
+  -- what may be refused for its word leaves the mode alone
+  ends : ((s : State) → says s c ≡ Ok Done) ⊎ ((n : Mode) → goes_to n c ≡ n)
+
+plain : (c : Call) → Plain c
+plain (Read w) = record { turned = unlocked_turns; place = refl; settles = refl; leads = λ n. refl; ends = inr (λ n. refl) }
+plain (Post s) = record { turned = unlocked_turns; place = refl; settles = refl; leads = λ n. refl; ends = inl (λ t. refl) }
+plain (Unposted s) = record { turned = unlocked_turns; place = refl; settles = refl; leads = λ n. refl; ends = inl (λ t. refl) }
+plain Advance = record { turned = every_turns; place = refl; settles = refl; leads = λ n. refl; ends = inl (λ t. refl) }
+plain Lock = record { turned = free_turns; place = refl; settles = refl; leads = λ n. refl; ends = inl (λ t. refl) }
+plain (LockedRead w) = record { turned = locked_turns; place = refl; settles = refl; leads = λ n. refl; ends = inr (λ n. refl) }
+plain (LockedWrite s) = record { turned = locked_turns; place = refl; settles = refl; leads = λ n. refl; ends = inl (λ t. refl) }
+plain Unlock = record { turned = locked_turns; place = refl; settles = refl; leads = λ n. refl; ends = inl (λ t. refl) }
+plain Ask = record { turned = free_turns; place = refl; settles = refl; leads = λ n. refl; ends = inl (λ t. refl) }
+plain (MasterRead w) = record { turned = granted_turns; place = refl; settles = refl; leads = λ n. refl; ends = inr (λ n. refl) }
+plain (MasterWrite s) = record { turned = granted_turns; place = refl; settles = refl; leads = λ n. refl; ends = inl (λ t. refl) }
+plain Give = record { turned = granted_turns; place = refl; settles = refl; leads = λ n. refl; ends = inl (λ t. refl) }
+plain (Snoop w) = record { turned = every_turns; place = refl; settles = refl; leads = λ n. refl; ends = inl (λ t. refl) }
+plain Flush = record { turned = every_turns; place = refl; settles = refl; leads = λ n. refl; ends = inl (λ t. refl) }
+
+-- whatever a mode turns down is told by the board
+board_tells : (f : ℕ) (t : Takers) (m : Mode) (x : Refusal) → stopped t m ≡ Some x → floor_for f x ≡ floor_above f
+board_tells f every m x e = absurd (cc)
+board_tells f unlocked Free x e = absurd (cc)
+board_tells f unlocked Locked x e = let same : IsLocked ≡ x = cc in ap (floor_for f) (sym same)
+board_tells f unlocked Granted x e = absurd (cc)
+board_tells f free Free x e = absurd (cc)
+board_tells f free Locked x e = let same : IsLocked ≡ x = cc in ap (floor_for f) (sym same)
+board_tells f free Granted x e = let same : IsGranted ≡ x = cc in ap (floor_for f) (sym same)
+board_tells f locked Free x e = let same : NotLocked ≡ x = cc in ap (floor_for f) (sym same)
+board_tells f locked Locked x e = absurd (cc)
+board_tells f locked Granted x e = let same : NotLocked ≡ x = cc in ap (floor_for f) (sym same)
+board_tells f granted Free x e = let same : NotGranted ≡ x = cc in ap (floor_for f) (sym same)
+board_tells f granted Locked x e = let same : NotGranted ≡ x = cc in ap (floor_for f) (sym same)
+board_tells f granted Granted x e = absurd (cc)
+
 turned_is : (c : Call) (n : Mode) → turned_away c n ≡ stop n c
-turned_is (Read w) Free = refl
-turned_is (Read w) Locked = refl
-turned_is (Read w) Granted = refl
-turned_is (Post s) Free = refl
-turned_is (Post s) Locked = refl
-turned_is (Post s) Granted = refl
-turned_is (Unposted s) Free = refl
-turned_is (Unposted s) Locked = refl
-turned_is (Unposted s) Granted = refl
-turned_is Advance Free = refl
-turned_is Advance Locked = refl
-turned_is Advance Granted = refl
-turned_is Lock Free = refl
-turned_is Lock Locked = refl
-turned_is Lock Granted = refl
-turned_is (LockedRead w) Free = refl
-turned_is (LockedRead w) Locked = refl
-turned_is (LockedRead w) Granted = refl
-turned_is (LockedWrite s) Free = refl
-turned_is (LockedWrite s) Locked = refl
-turned_is (LockedWrite s) Granted = refl
-turned_is Unlock Free = refl
-turned_is Unlock Locked = refl
-turned_is Unlock Granted = refl
-turned_is Ask Free = refl
-turned_is Ask Locked = refl
-turned_is Ask Granted = refl
-turned_is (MasterRead w) Free = refl
-turned_is (MasterRead w) Locked = refl
-turned_is (MasterRead w) Granted = refl
-turned_is (MasterWrite s) Free = refl
-turned_is (MasterWrite s) Locked = refl
-turned_is (MasterWrite s) Granted = refl
-turned_is Give Free = refl
-turned_is Give Locked = refl
-turned_is Give Granted = refl
-turned_is (Snoop w) Free = refl
-turned_is (Snoop w) Locked = refl
-turned_is (Snoop w) Granted = refl
-turned_is Flush Free = refl
-turned_is Flush Locked = refl
-turned_is Flush Granted = refl
-
-settles_is : (c : Call) → settles_at c ≡ settles_by c
-settles_is (Read w) = refl
-settles_is (Post s) = refl
-settles_is (Unposted s) = refl
-settles_is Advance = refl
-settles_is Lock = refl
-settles_is (LockedRead w) = refl
-settles_is (LockedWrite s) = refl
-settles_is Unlock = refl
-settles_is Ask = refl
-settles_is (MasterRead w) = refl
-settles_is (MasterWrite s) = refl
-settles_is Give = refl
-settles_is (Snoop w) = refl
-settles_is Flush = refl
-
-turned_floor : (f : ℕ) (c : Call) (n : Mode) (x : Refusal) → turned_away c n ≡ Some x → floor_for f x ≡ floor_above f
-turned_floor f (Read w) Free x e = absurd (cc)
-turned_floor f (Read w) Locked x e = let same : IsLocked ≡ x = cc in ap (floor_for f) (sym same)
-turned_floor f (Read w) Granted x e = absurd (cc)
-turned_floor f (Post s) Free x e = absurd (cc)
-turned_floor f (Post s) Locked x e = let same : IsLocked ≡ x = cc in ap (floor_for f) (sym same)
-turned_floor f (Post s) Granted x e = absurd (cc)
-turned_floor f (Unposted s) Free x e = absurd (cc)
-turned_floor f (Unposted s) Locked x e = let same : IsLocked ≡ x = cc in ap (floor_for f) (sym same)
-turned_floor f (Unposted s) Granted x e = absurd (cc)
-turned_floor f Advance Free x e = absurd (cc)
-turned_floor f Advance Locked x e = absurd (cc)
-turned_floor f Advance Granted x e = absurd (cc)
-turned_floor f Lock Free x e = absurd (cc)
-turned_floor f Lock Locked x e = let same : IsLocked ≡ x = cc in ap (floor_for f) (sym same)
-turned_floor f Lock Granted x e = let same : IsGranted ≡ x = cc in ap (floor_for f) (sym same)
-turned_floor f (LockedRead w) Free x e = let same : NotLocked ≡ x = cc in ap (floor_for f) (sym same)
-turned_floor f (LockedRead w) Locked x e = absurd (cc)
-turned_floor f (LockedRead w) Granted x e = let same : NotLocked ≡ x = cc in ap (floor_for f) (sym same)
-turned_floor f (LockedWrite s) Free x e = let same : NotLocked ≡ x = cc in ap (floor_for f) (sym same)
-turned_floor f (LockedWrite s) Locked x e = absurd (cc)
-turned_floor f (LockedWrite s) Granted x e = let same : NotLocked ≡ x = cc in ap (floor_for f) (sym same)
-turned_floor f Unlock Free x e = let same : NotLocked ≡ x = cc in ap (floor_for f) (sym same)
-turned_floor f Unlock Locked x e = absurd (cc)
-turned_floor f Unlock Granted x e = let same : NotLocked ≡ x = cc in ap (floor_for f) (sym same)
-turned_floor f Ask Free x e = absurd (cc)
-turned_floor f Ask Locked x e = let same : IsLocked ≡ x = cc in ap (floor_for f) (sym same)
-turned_floor f Ask Granted x e = let same : IsGranted ≡ x = cc in ap (floor_for f) (sym same)
-turned_floor f (MasterRead w) Free x e = let same : NotGranted ≡ x = cc in ap (floor_for f) (sym same)
-turned_floor f (MasterRead w) Locked x e = let same : NotGranted ≡ x = cc in ap (floor_for f) (sym same)
-turned_floor f (MasterRead w) Granted x e = absurd (cc)
-turned_floor f (MasterWrite s) Free x e = let same : NotGranted ≡ x = cc in ap (floor_for f) (sym same)
-turned_floor f (MasterWrite s) Locked x e = let same : NotGranted ≡ x = cc in ap (floor_for f) (sym same)
-turned_floor f (MasterWrite s) Granted x e = absurd (cc)
-turned_floor f Give Free x e = let same : NotGranted ≡ x = cc in ap (floor_for f) (sym same)
-turned_floor f Give Locked x e = let same : NotGranted ≡ x = cc in ap (floor_for f) (sym same)
-turned_floor f Give Granted x e = absurd (cc)
-turned_floor f (Snoop w) Free x e = absurd (cc)
-turned_floor f (Snoop w) Locked x e = absurd (cc)
-turned_floor f (Snoop w) Granted x e = absurd (cc)
-turned_floor f Flush Free x e = absurd (cc)
-turned_floor f Flush Locked x e = absurd (cc)
-turned_floor f Flush Granted x e = absurd (cc)
-
-place_is : (c : Call) → place_in (cargo_of c) ≡ told_at c
-place_is (Read w) = refl
-place_is (Post s) = refl
-place_is (Unposted s) = refl
-place_is Advance = refl
-place_is Lock = refl
-place_is (LockedRead w) = refl
-place_is (LockedWrite s) = refl
-place_is Unlock = refl
-place_is Ask = refl
-place_is (MasterRead w) = refl
-place_is (MasterWrite s) = refl
-place_is Give = refl
-place_is (Snoop w) = refl
-place_is Flush = refl
+turned_is c n = (plain c).turned n
 
 -- what a refusal says besides its reason
 pub record Says (floor : ℕ) (c : Call) (fault : Fault) : Type 0 where
@@ -245,12 +197,12 @@ pub answered : (b : Book) (m : Moment) → m.answer ≡ answer b m.call → Answ
 answered b m e = record {
   turned = λ x t.
       e ∙ ap (λ (o : Option Refusal). told floor c (unless (or_else o (fits n (cargo_of c))) (says b.state c))) (sym (turned_is c b.mode) ∙ t)
-      ∙ ap₂ (λ (p f : ℕ). Err (record { refusal = x; place = p; floor = f })) (place_is c) (turned_floor floor c b.mode x t);
+      ∙ ap₂ (λ (p f : ℕ). Err (record { refusal = x; place = p; floor = f })) (plain c).place (board_tells floor (deed c).takers b.mode x (sym (turned_is c b.mode) ∙ t));
   served = λ fault t a.
       let none_stops : stop b.mode c ≡ None = sym (turned_is c b.mode) ∙ t in
       mild_told floor c (fits n (cargo_of c)) (says b.state c) fault (mild_fits n (cargo_of c)) (mild_says b.state c)
       (ap (λ (o : Option Refusal). told floor c (unless (or_else o (fits n (cargo_of c))) (says b.state c))) (sym none_stops) ∙ sym e ∙ a);
-  place = λ fault t a. (said fault a).place ∙ place_is c;
+  place = λ fault t a. (said fault a).place ∙ (plain c).place;
   below = λ fault t a h. (said fault a).floor_is ∙ low_floor floor fault.refusal h;
   unreadable = λ fault a h. (said fault a).floor_is ∙ no_floor floor fault.refusal h;
 }
@@ -279,33 +231,14 @@ all_in b (x ∷ run) f h =
 
 -- MODES
 
-stays : (n : Mode) (o : Option Refusal) → if_taken o n n ≡ n
-stays n None = refl
-stays n (Some x) = refl
-
-unmoved : (n : Mode) (c : Call) (r : Result Answer Fault) → leads_to n c ≡ n → moved n c r ≡ n
-unmoved n c (Ok a) e = e
-unmoved n c (Err x) e = refl
-
 moves : (n : Mode) (floor : ℕ) (s : State) (c : Call) (o : Option Refusal) → if_taken o (goes_to n c) n ≡ moved n c (told floor c (unless o (says s c)))
-moves n floor s (Read w) o = stays n o ∙ sym (unmoved n (Read w) (told floor (Read w) (unless o (says s (Read w)))) refl)
-moves n floor s (Post y) o = stays n o ∙ sym (unmoved n (Post y) (told floor (Post y) (unless o (says s (Post y)))) refl)
-moves n floor s (Unposted y) o = stays n o ∙ sym (unmoved n (Unposted y) (told floor (Unposted y) (unless o (says s (Unposted y)))) refl)
-moves n floor s Advance o = stays n o ∙ sym (unmoved n Advance (told floor Advance (unless o (says s Advance))) refl)
-moves n floor s Lock None = refl
-moves n floor s Lock (Some x) = refl
-moves n floor s (LockedRead w) o = stays n o ∙ sym (unmoved n (LockedRead w) (told floor (LockedRead w) (unless o (says s (LockedRead w)))) refl)
-moves n floor s (LockedWrite y) o = stays n o ∙ sym (unmoved n (LockedWrite y) (told floor (LockedWrite y) (unless o (says s (LockedWrite y)))) refl)
-moves n floor s Unlock None = refl
-moves n floor s Unlock (Some x) = refl
-moves n floor s Ask None = refl
-moves n floor s Ask (Some x) = refl
-moves n floor s (MasterRead w) o = stays n o ∙ sym (unmoved n (MasterRead w) (told floor (MasterRead w) (unless o (says s (MasterRead w)))) refl)
-moves n floor s (MasterWrite y) o = stays n o ∙ sym (unmoved n (MasterWrite y) (told floor (MasterWrite y) (unless o (says s (MasterWrite y)))) refl)
-moves n floor s Give None = refl
-moves n floor s Give (Some x) = refl
-moves n floor s (Snoop w) o = stays n o ∙ sym (unmoved n (Snoop w) (told floor (Snoop w) (unless o (says s (Snoop w)))) refl)
-moves n floor s Flush o = stays n o ∙ sym (unmoved n Flush (told floor Flush (unless o (says s Flush))) refl)
+moves n floor s c (Some x) = refl
+moves n floor s c None = by_answer (says s c) refl (plain c).ends
+  where
+    by_answer : (r : Result Answer Refusal) → says s c ≡ r → ((s : State) → says s c ≡ Ok Done) ⊎ ((n : Mode) → goes_to n c ≡ n) → goes_to n c ≡ moved n c (told floor c r)
+    by_answer (Ok a) e k = (plain c).leads n
+    by_answer (Err x) e (inl k) = let done = k s in absurd (cc)
+    by_answer (Err x) e (inr k) = k n
 
 pub modes_follow : (b : Book) (run : List Moment) → Follows b run → (after b run).mode ≡ mode_by b.mode run
 modes_follow b [] f = refl
@@ -327,7 +260,7 @@ as_many m p b l x a h allowed e ok =
     let size : length (l.waiting ++ joining_entries p x) ≡ length (waiting_line b x.call) =
     ap length (ap (λ (r : Result Answer Fault). l.waiting ++ joining_entries p (moment x.call r x.count)) e ∙ joined_is p b l x.call x.count h.waiting) ∙ length-map (waiting_line b x.call) _ in
     let rule : if_taken (refused b x.call) (settles_by x.call) none ≡ settles_at x.call =
-    ap (λ (o : Option Refusal). if_taken o (settles_by x.call) none) taken ∙ sym (settles_is x.call) in
+    ap (λ (o : Option Refusal). if_taken o (settles_by x.call) none) taken ∙ sym (plain x.call).settles in
     let F : Rule → Type 0 = λ r. Admits r (length (waiting_line b x.call)) x.count in
     let N : ℕ → Type 0 = λ n. Admits (settles_at x.call) n x.count in
     subst N (sym size) (subst F rule allowed)

@@ -3,7 +3,7 @@ use Rattle.std.specs.Prelude.{◌≡◌, ◌≢◌, ℕ, ◌+◌, Bool, List, []
 use Rattle.fault.specs.declared.Fault.{Fault}
 use Rattle.fault.specs.Numbers.{number_of}
 use Rattle.calls.specs.declared.call.Call.{Call}
-use Rattle.calls.specs.declared.call.Call.TheVariants.{Read, Write as Post, Unposted, Advance, Lock, LockedRead, LockedWrite, Unlock, Ask, MasterRead, MasterWrite, Give, Snoop, Flush}
+use Rattle.calls.specs.declared.call.Call.TheVariants.{Write as Post, Unposted, Lock, LockedWrite, Unlock, Ask, MasterWrite, Give}
 use Rattle.port.specs.declared.Store.{Store}
 use Rattle.port.specs.Memory.{line_of}
 use Rattle.book.specs.declared.answer.Mode.{Mode}
