@@ -25,10 +25,10 @@ pub each_record : EachRecordIsALine
 each_record = record {
   word = λ lines k offset h.
       let line : (k * 8 + offset) / 8 ≡ k = omega arith in
-      let at : (k * 8 + offset) % 8 ≡ place = omega arith in
+      let at : (k * 8 + offset) % 8 ≡ offset = omega arith in
       ap₂ (λ (l p : ℕ). slice_index (line_at lines l).words p) line at;
   readable = λ lines k offset h.
       let line : (k * 8 + offset) / 8 ≡ k = omega arith in
-      let at : (k * 8 + offset) % 8 ≡ place = omega arith in
+      let at : (k * 8 + offset) % 8 ≡ offset = omega arith in
       ap₂ (λ (l p : ℕ). slice_index_or (line_at lines l).readable p false) line at;
 }
