@@ -133,11 +133,12 @@ pub fn replay<P: Port>(alloc: Global, port: P, clears: bool) -> Result<Replayed<
     let answers = outcome.answers;
     let before = row_at(&answers, FIRST_READING);
     let after = row_at(&answers, LAST_READING + usize::from(clears));
+    let left = outcome.board.into_port();
     Ok(Replayed {
         calls,
         answers,
         before,
         after,
-        port: outcome.board.into_port(),
+        port: left,
     })
 }
