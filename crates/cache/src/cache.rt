@@ -7,7 +7,7 @@ use crate::questions::inspect;
 use cache_tables::Tables;
 use directory::WayState;
 use fault::Fault;
-use port::{Port, Store, check_above, check_range, check_store_above};
+use port::{Port, Store, check_above, check_store_above, marks_above};
 
 /// A port that keeps lines of the port below.
 #[derive(Drop)]
@@ -157,8 +157,7 @@ impl<P: Port> Port for Cache<P> {
     }
 
     fn marks(&self, line: u32) -> Result<(bool, bool), Fault> {
-        check_range(line, self.words() / 8, self.floor())?;
-        self.below.marks(line)
+        marks_above(&self.below, line)
     }
 
     fn waiting(&self) -> u32 {

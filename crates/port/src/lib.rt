@@ -165,6 +165,14 @@ pub fn check_store_above<P: Port>(below: &P, write: Store) -> Result<(), Fault>
     check_write(write, below.words(), below.floor().saturating_add(1))
 }
 
+/// The marks of a line of the port, asked of a stage over it: a line past the end is refused on the stage's floor.
+pub fn marks_above<P: Port>(below: &P, line: u32) -> Result<(bool, bool), Fault>
+    ensures { result ≡ marks_answer (raised (P.state below.now)) line }
+{
+    check_range(line, below.words() / 8, below.floor().saturating_add(1))?;
+    below.marks(line)
+}
+
 /// Advances a port until none of its writes waits.
 pub fn settle_all<P: Port>(port: &mut P)
     ensures after { P.state port.new ≡ drained (P.state port.old) }

@@ -5,7 +5,7 @@ ghost use Rattle.write_buffer.specs.Taking.{Takes, Takes-prop};
 use super::queue::Queue;
 use super::sending::{send, send_all, send_on};
 use fault::Fault;
-use port::{Port, Store, check_above, check_range, check_store_above};
+use port::{Port, Store, check_above, check_store_above, marks_above};
 
 /// A port whose processor writes wait in a queue before they go to the port below.
 #[derive(Drop)]
@@ -62,8 +62,7 @@ impl<P: Port> Port for WriteBuffer<P> {
     }
 
     fn marks(&self, line: u32) -> Result<(bool, bool), Fault> {
-        check_range(line, self.words() / 8, self.floor())?;
-        self.below.marks(line)
+        marks_above(&self.below, line)
     }
 
     fn waiting(&self) -> u32 {
