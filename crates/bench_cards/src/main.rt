@@ -54,10 +54,10 @@ fn is_held<P: Port>(board: &mut Board<P>, first: u32, steps: u32, word: u32) -> 
     board.waiting() > 0
 }
 
-// The place in a line that a step of a fill brings: held after the step, and not before it.
+// The offset in a line that a step of a fill brings: held after the step, and not before it.
 fn offset_at_step<P: Port>(board: &mut Board<P>, line: u32, first: u32, step: u32) -> Option<u32> {
-    (0..8u32).find(|place| {
-        let word = line.wrapping_mul(8).wrapping_add(*place);
+    (0..8u32).find(|offset| {
+        let word = line.wrapping_mul(8).wrapping_add(*offset);
         let before = step > 0 && is_held(board, first, step - 1, word);
         !before && is_held(board, first, step, word)
     })
@@ -83,7 +83,7 @@ fn way_of<P: Port>(cache: &Cache<P>, line: u32) -> Option<u32> {
     })
 }
 
-// Where the cache keeps the line of word 20,003, and at which place of it a fill from that word begins.
+// Where the cache keeps the line of word 20,003, and at which offset in it a fill from that word begins.
 fn try_where<P: Port>(rt: &HostRuntime, board: &mut Board<Cache<P>>) -> io::Result<()> {
     let _ = board.call(Call::Flush);
     fill_from(board, 20_003, 7);
@@ -92,7 +92,9 @@ fn try_where<P: Port>(rt: &HostRuntime, board: &mut Board<Cache<P>>) -> io::Resu
     };
     let line = tag.wrapping_mul(256).wrapping_add(set);
     match offset_at_step(board, line, 20_003, 0) {
-        Some(place) => println!(rt; "word 20003: line {line}, place {place}, set {set}, tag {tag}"),
+        Some(offset) => println!(rt;
+            "word 20003: line {line}, place {offset}, set {set}, tag {tag}"
+        ),
         None => println!(rt; "word 20003: not in line {line}"),
     }
 }
@@ -121,12 +123,12 @@ fn try_snoop<P: Port>(rt: &HostRuntime, board: &mut Board<Cache<P>>) -> io::Resu
     print_way(rt, 1_024, way_of(board.port(), 1_024))
 }
 
-// The places that a fill from place 5 of line 2,500 brings, step by step.
+// The offsets that a fill from offset 5 of line 2,500 brings, step by step.
 fn try_order<P: Port>(rt: &HostRuntime, board: &mut Board<P>) -> io::Result<()> {
     print!(rt; "fill from place 5:")?;
     for step in 0..8u32 {
         match offset_at_step(board, 2_500, 20_005, step) {
-            Some(place) => print!(rt; " {place}")?,
+            Some(offset) => print!(rt; " {offset}")?,
             None => print!(rt; " none")?,
         }
     }

@@ -253,6 +253,7 @@ impl<P: Port> Board<P> {
     pub fn locked_cycle(&mut self, word: u32) -> Result<u16, Fault>
         ensures value { result ≡ cycle_answer (stop self.old.mode Locks) (P.state self.old.port).facts.floor Locks (read_answer (P.state self.old.port) word) }
         ensures after { Reaches (stop self.old.mode Locks) (P.state self.new.port ≡ drained (P.state self.old.port)) (self.new.port ≡ self.old.port) }
+        ensures did { Reaches (stop self.old.mode Locks) (Drains P.state P.does self.old.port self.new.port) (self.new.port ≡ self.old.port) }
         ensures mode { self.new.mode ≡ self.old.mode }
     {
         let lock = self.lock()?;

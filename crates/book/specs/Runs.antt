@@ -3,14 +3,13 @@ use Rattle.std.specs.Prelude.{◌≡◌, ◌≢◌, ℕ, ◌+◌, Bool, List, []
 use Rattle.fault.specs.declared.Fault.{Fault}
 use Rattle.fault.specs.Numbers.{number_of}
 use Rattle.calls.specs.declared.call.Call.{Call}
-use Rattle.calls.specs.declared.call.Call.TheVariants.{Write as Post, Unposted, Lock, LockedWrite, Unlock, Ask, MasterWrite, Give}
+use Rattle.calls.specs.declared.call.Call.TheVariants.{Write as Post, Unposted, Lock, LockedWrite, Unlock, Ask, MasterWrite, Give, MasterRead}
 use Rattle.port.specs.declared.Store.{Store}
 use Rattle.port.specs.Memory.{line_of}
 use Rattle.book.specs.declared.answer.Mode.{Mode}
 use Rattle.book.specs.declared.answer.Mode.TheVariants.{Free, Locked, Granted}
 use Rattle.book.specs.declared.answer.Answer.{Answer}
 use Rattle.book.specs.declared.answer.Answer.TheVariants.{Done}
-use Rattle.book.specs.Tables.{Takers, every, unlocked, free, locked, granted, deed}
 use Rattle.book.specs.Book.{Book, step, answer, Allowed}
 
 -- One call of a run, its answer, and how many of the waiting writes settled at it.
@@ -145,16 +144,10 @@ pub record Turned : Type 0 where
   pub number : ℕ
   pub place : ℕ
 
-abbrev pub unread_by : Takers → Answer → Answer
-unread_by every a = a
-unread_by unlocked a = a
-unread_by free a = a
-unread_by locked a = a
-unread_by granted a = Done
-
--- Whatever only a grant allows is the master's, and is heard as done.
+-- What a master reads is heard as done.
 abbrev pub unread : Call → Answer → Answer
-unread c a = unread_by (deed c).takers a
+unread (MasterRead w) a = Done
+unread other a = a
 
 abbrev pub heard : Call → Result Answer Fault → Result Answer Turned
 heard c (Ok a) = Ok (unread c a)

@@ -1,7 +1,8 @@
 -- What a cache means, and what its calls do: to its tables, and by which calls to the port below.
-use Rattle.std.specs.Prelude.{◌≡◌, ℕ, Result}
+use Rattle.std.specs.Prelude.{◌≡◌, ℕ, ◌≤◌, Err, Result}
 use Rattle.std.specs.Option.{ok_or}
 use Rattle.fault.specs.declared.Fault.{Fault}
+use Rattle.fault.specs.declared.Refusal.TheVariants.{PastEnd}
 use Rattle.port.specs.declared.Port.{Ghosts}
 use Rattle.port.specs.Memory.{raised}
 use Rattle.port.specs.Meaning.{past_end, within, ByAnswer}
@@ -23,6 +24,11 @@ tables_of c = model c.tables
 -- What is told of a way; where there is no such set or way the question is refused as past the end, at the set.
 abbrev pub inspect_answer : Dir → ℕ → ℕ → ℕ → Result WayState Fault
 inspect_answer d floor set way = ok_or (inspected d set way) (past_end set floor)
+
+-- A set or a way that there is not is refused with 1, at the set, on the cache's floor.
+pub record UnknownWaysAreRefused (d : Dir) (floor : ℕ) : Type 0 where
+  pub no_set : (set way : ℕ) → 256 ≤ set → inspect_answer d floor set way ≡ Err (record { refusal = PastEnd; place = set; floor = floor })
+  pub no_way : (set way : ℕ) → 4 ≤ way → inspect_answer d floor set way ≡ Err (record { refusal = PastEnd; place = set; floor = floor })
 
 -- The tables become what the turn says, and the port below gets its calls, in order and no others.
 pub record TakesTurn {P : Type 0} {G : Ghosts P} (t : Turn) (b c : Cache P G) : Type 0 where

@@ -4,7 +4,7 @@ use Rattle.std.specs.Option.{option_map_or}
 use Rattle.std.proofs.lemmas.Bool.{cond-true, cond-false, cases_eq, eq-eqb, ne_eqb, and_left, and_right, and_from, not_from_true}
 use Rattle.fault.specs.declared.Fault.{Fault}
 use Rattle.port.specs.declared.Store.{Store}
-use Rattle.port.specs.Steps.{reads, writes}
+use Rattle.port.specs.Steps.{advances, reads, writes}
 use Rattle.port.specs.Memory.{line_of}
 use Rattle.directory.specs.declared.lru.WayNumber.{WayNumber}
 use Rattle.directory.specs.declared.sets.Way.{Way}
@@ -283,6 +283,10 @@ module _ (v : Shown) (t : Model) (w : Store) (r : Result (Unit {0}) Fault) (c : 
           ∙ ap Some (cond-true (eqb w.word w.word) _ _ (eq-eqb w.word w.word refl) ∙ cond-false (v.protected (w.word / 8)) _ _ (ap (λ (l : ℕ). v.protected l) (sym at) ∙ o));
       rest = λ all a e n. answers all a e ∙ ap Some (cond-false (eqb a w.word) _ _ (ne_eqb a w.word n));
       touch = is_touched;
+      torn = λ none.
+          ends ∙ ap (λ (m : Model). written m w) done_with
+          ∙ ap (λ (x : Bool). written (idle (cond x (installed t.dir b.line b.way b.protect (line_seen v b.line)) t.dir)) w) none
+          ∙ ap (λ (k : Option WayNumber). idle (changed_of t.dir w k)) (ap (found t.dir) (sym at) ∙ (c.fill b is).absent);
       first = finish_calls v t;
       few = few_calls v t;
       calls = ap (λ (u : Turn). u.calls ++ (writes w r ∷ [])) (cond-true (fills_open t.fill line) (finish_turn v t) (turn t []) is_open);
@@ -334,5 +338,8 @@ pub advances_fetch_one : (v : Shown) (d : Dir) (f : Option Fill) (b : Fill) → 
 advances_fetch_one v d None b c e = absurd (cc)
 advances_fetch_one v d (Some a) b c e = given (λ (x : Fill). OneWordComes v (record { dir = d; fill = Some a }) x) a b e (one_word_comes v d a c)
 
-pub advances_else_nothing : (v : Shown) (t : Model) → t.fill ≡ None → (advance_turn v t).tables ≡ t
-advances_else_nothing v t e = ap (fetched_of v t.dir) e ∙ ap (λ (f : Option Fill). record { dir = t.dir; fill = f }) (sym e)
+pub advances_else_nothing : (v : Shown) (t : Model) → t.fill ≡ None → ((advance_turn v t).tables ≡ t) × ((advance_turn v t).calls ≡ advances ∷ [])
+advances_else_nothing v t e = (
+  ap (fetched_of v t.dir) e ∙ ap (λ (f : Option Fill). record { dir = t.dir; fill = f }) (sym e),
+  ap (λ (f : Option Fill). fetch_calls v f ++ (advances ∷ [])) e,
+)

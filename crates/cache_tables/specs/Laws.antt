@@ -13,7 +13,7 @@ use Rattle.directory.specs.Dirs.{Dir, set_of, found}
 use Rattle.directory.specs.Ticks.{next_word, fetched_word}
 use Rattle.directory.specs.Laws.{WayIsTouched, InstallKeepsOtherLines, StoreAddsItsWord}
 use Rattle.cache_tables.specs.Showing.{Shown, shown, reading, whole}
-use Rattle.cache_tables.specs.Rules.{Model, fetched, finished, lacking, buffered_of, hit, begun, read_turn, write_turn, advance_turn, snoop_turn, outside_turn, flush_turn}
+use Rattle.cache_tables.specs.Rules.{Model, idle, fetched, finished, lacking, buffered_of, hit, begun, read_turn, write_turn, advance_turn, snoop_turn, outside_turn, flush_turn}
 use Rattle.cache_tables.specs.Coherence.{Sees, Coherent}
 
 -- How much has settled below shows nowhere in the rules.
@@ -117,6 +117,8 @@ pub record WriteLandsTheLine (v : Shown) (t : Model) (w : Store) (r : Result (Un
   pub here : whole v b.line ≡ true → hit (write_turn v t w r).tables.dir w.word ≡ Some (merged w.lanes (v.word w.word) w.value)
   pub rest : whole v b.line ≡ true → (a : ℕ) → line_of a ≡ b.line → a ≢ w.word → hit (write_turn v t w r).tables.dir a ≡ Some (v.word a)
   pub touch : whole v b.line ≡ true → WayIsTouched t.dir (write_turn v t w r).tables.dir b.line b.way
+  -- if a word of it cannot be read, nothing is kept, and nothing else changes
+  pub torn : whole v b.line ≡ false → (write_turn v t w r).tables ≡ idle t.dir
   pub first : List Step
   pub few : length first ≤ lacking t.fill
   pub calls : (write_turn v t w r).calls ≡ first ++ (writes w r ∷ [])
@@ -193,4 +195,4 @@ pub record WritesLandOrOnlyTouch : Type 0 where
 -- An advance brings one word of a fill at most.
 pub record AdvancesFetchOneWord : Type 0 where
   pub one : (v : Shown) (t : Model) (b : Fill) → Coherent v t → t.fill ≡ Some b → OneWordComes v t b
-  pub else_nothing : (v : Shown) (t : Model) → t.fill ≡ None → (advance_turn v t).tables ≡ t
+  pub else_nothing : (v : Shown) (t : Model) → t.fill ≡ None → ((advance_turn v t).tables ≡ t) × ((advance_turn v t).calls ≡ advances ∷ [])

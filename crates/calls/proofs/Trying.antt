@@ -19,5 +19,6 @@ worked_list = record {
   give = refl;
   snoop = refl;
   flush = refl;
+  longest = refl;
   low_byte_first = refl;
 }

@@ -50,7 +50,7 @@ bytes_of (w ∷ ws) = w % 2 ^ 8 ∷ w / 2 ^ 8 % 2 ^ 8 ∷ w / 2 ^ 16 % 2 ^ 8 ∷
 abbrev pub encode : List Call → List ℕ
 encode calls = bytes_of (list_words calls)
 
--- Each kind of call in its list words, and a list word in its bytes.
+-- Each kind of call in its list words, the most bytes of a list, and a list word in its bytes.
 pub record WorkedList : Type 0 where
   pub read : call_words (Read 5) ≡ 0x00000005 ∷ []
   pub write : call_words (Write (record { word = 2; lanes = 3; value = 0x0109 })) ≡ 0x11800002 ∷ 0xf0000109 ∷ []
@@ -66,6 +66,7 @@ pub record WorkedList : Type 0 where
   pub give : call_words Give ≡ 0xb0000000 ∷ []
   pub snoop : call_words (Snoop 5) ≡ 0xc0000005 ∷ []
   pub flush : call_words Flush ≡ 0xd0000000 ∷ []
+  pub longest : most_bytes ≡ 16384
   pub low_byte_first : bytes_of (0x11800002 ∷ []) ≡ 0x02 ∷ 0x00 ∷ 0x80 ∷ 0x11 ∷ []
 
 -- The parts of a call fit their bits.

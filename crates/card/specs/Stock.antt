@@ -3,7 +3,7 @@ use Rattle.std.specs.Prelude.{◌≡◌, ℕ, ◌%◌, ◌^◌, ◌<◌, true, f
 use Rattle.banks.specs.declared.line.Line.{Line}
 use Rattle.banks.specs.Lines.{blank}
 
--- Zeroed and unprotected; line 2,047 may not be cached, and word 37, at place 5 of line 4, cannot be read.
+-- Zeroed and unprotected; line 2,047 may not be cached, and word 37, at offset 5 of line 4, cannot be read.
 abbrev pub stock_line : ℕ → Line
 stock_line line = record {
   words = replicate 8 0;
@@ -15,7 +15,7 @@ stock_line line = record {
 abbrev pub stock_byte : ℕ → ℕ
 stock_byte i = i % 2 ^ 8
 
--- So many items, each what a rule says of its place.
+-- So many items, each what a rule says of its index.
 pub record Stocked {X : Type 0} (rule : ℕ → X) (none : X) (count : ℕ) (items : List X) : Type 0 where
   pub count_is : length items ≡ count
   pub each : (i : ℕ) → i < count → slice_index_or items i none ≡ rule i

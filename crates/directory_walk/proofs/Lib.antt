@@ -1,3 +1,4 @@
 pub mod Counting
 pub mod Filling
 pub mod Finding
+pub mod Telling

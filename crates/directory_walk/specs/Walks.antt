@@ -1,5 +1,9 @@
 -- What a walk through the cache directory finds.
-use Rattle.std.specs.Prelude.{◌≡◌, ℕ, List, [], ◌∷◌, map, vec_items}
+use Rattle.std.specs.Prelude.{◌≡◌, ℕ, List, [], ◌∷◌, map, vec_items, slice_index_or, Result}
+use Rattle.fault.specs.declared.Fault.{Fault}
+use Rattle.directory.specs.declared.lru.WayNumber.{WayNumber}
+use Rattle.directory.specs.declared.directory.questions.WayState.{WayState}
+use Rattle.directory.specs.Touch.{index_of}
 use Rattle.port.specs.declared.Port.{Ghosts}
 use Rattle.port.specs.Memory.{floor_above}
 use Rattle.directory.specs.Dirs.{Dir, valid_ways}
@@ -14,6 +18,10 @@ set_told d floor set = record {
   set = set;
   ways = inspect_answer d floor set 0 ∷ inspect_answer d floor set 1 ∷ inspect_answer d floor set 2 ∷ inspect_answer d floor set 3 ∷ [];
 }
+
+-- All four ways are told, each by its own number.
+abbrev pub EveryWayIsTold : Type 0
+EveryWayIsTold = (d : Dir) (floor set : ℕ) (k : WayNumber) (none : Result WayState Fault) → slice_index_or (set_told d floor set).ways (index_of k) none ≡ inspect_answer d floor set (index_of k)
 
 abbrev pub told_of : {P : Type 0} {G : Ghosts P} → Cache P G → ℕ → SetTold
 told_of {P} {G} c set = set_told (tables_of c).dir (floor_above (G.state c.below).facts.floor) set

@@ -2,7 +2,7 @@
 #![tactic(auto)]
 
 ghost use Rattle.std.specs.Prelude.{◌≡◌, ◌≤◌, [], length, IfOk, MatchResult, map, vec_len, vec_capacity};
-ghost use Rattle.directory_walk.specs.Walks.{told_of, Walked};
+ghost use Rattle.directory_walk.specs.Walks.{told_of, EveryWayIsTold, Walked};
 ghost use Rattle.directory_walk.specs.StartUp.{fill, start_up_calls, DirectoryTested};
 
 use board::{Board, Outcome, run};
@@ -74,7 +74,8 @@ pub fn walk_sets<P: Port>(
     board: &Board<Cache<P>>,
     sets: &[u32],
 ) -> Result<Walk, AllocError>
-    ensures { IfOk result (λ walk. Walked board.now.port sets.now walk) }
+    ensures walked { IfOk result (λ walk. Walked board.now.port sets.now walk) }
+    ensures law { EveryWayIsTold }
 {
     let room = Vec::with_capacity(alloc, sets.len())?;
     Ok(walk_into(board, sets, room))

@@ -1,13 +1,13 @@
 -- Each side of a map gets its own.
-use Rattle.std.proofs.Common.{◌≡◌, ℕ, ◌+◌, ◌-◌, ◌≤◌, Bool, true, false, cond, not, List, [], ◌∷◌, ◌++◌, Ok, Err, Result, refl, ◌∙◌, ap₂, arith}
+use Rattle.std.proofs.Common.{◌≡◌, ℕ, ◌+◌, ◌-◌, ◌<◌, Bool, true, false, cond, not, List, [], ◌∷◌, ◌++◌, length, Ok, Err, Result, refl, ◌∙◌, ap₂, arith}
 use Rattle.std.specs.Prelude.{MatchBool, nat_lt}
 use Rattle.std.proofs.lemmas.List.Concat.{flat_map-append}
 use Rattle.fault.specs.declared.Fault.{Fault}
 use Rattle.port.specs.declared.Port.{Ghosts}
 use Rattle.port.specs.declared.Store.{Store}
 use Rattle.port.specs.Memory.{State}
-use Rattle.port.specs.Steps.{Step, reads, writes, advances, outsides, snoops, flushes, done, then, Drains, empty, more, Through, sort, asked, word_read, advances_as}
-use Rattle.port.proofs.Chains.{advances-append, gets_one, gets_then}
+use Rattle.port.specs.Steps.{Step, reads, writes, advances, outsides, snoops, flushes, Chain, done, then, Drains, empty, more, Through, sort, asked, word_read, advances_as}
+use Rattle.port.proofs.Chains.{advances-append, idle_append, idle_few, busy_alone, gets_one, gets_then}
 use Rattle.joined_map.specs.declared.JoinedMap.{JoinedMap}
 use Rattle.joined_map.specs.Joint.{lowered}
 use Rattle.joined_map.specs.Steps.{ReadHigh, split, end, MapDoes}
@@ -15,35 +15,41 @@ use Rattle.joined_map.specs.Runs.{low_by, high_by, low_words, high_words, SideGe
 
 -- ---- one side
 
-module _ {P : Type 0} {does : P → Step → P → Type 0} where
-  nothing : {p q : P} → q ≡ p → SideGets does [] [] 0 p q
-  nothing e = rw e (record { gets = record { calls = []; chain = done; counted = refl }; read = refl; advanced = omega arith })
+module _ {P : Type 0} {state : P → State} {does : P → Step → P → Type 0} where
+  nothing : {p q : P} → q ≡ p → SideGets state does [] [] 0 p q
+  nothing e = rw e (record { gets = record { calls = []; chain = done; counted = refl }; read = refl; advanced = omega arith; idle = omega arith })
 
-  one : {p q : P} (d : Step) → does p d q → SideGets does (asked d ++ []) (word_read d ++ []) (advances_as (sort d).kind) p q
-  one d h = record { gets = gets_one d h; read = refl; advanced = omega arith }
+  one : {p q : P} (d : Step) → does p d q → SideGets state does (asked d ++ []) (word_read d ++ []) (advances_as (sort d).kind) p q
+  one {p} {q} d h =
+      let alone : Chain does p (d ∷ []) q = then h done in
+      let few = idle_few state alone in record { gets = gets_one d h; read = refl; advanced = omega arith; idle = omega (arith, few) }
 
-  both : {ds es : List Step} {ws vs : List ℕ} {n k : ℕ} {p q r : P} → SideGets does ds ws n p q → SideGets does es vs k q r → SideGets does (ds ++ es) (ws ++ vs) (n + k) p r
+  -- an advance while something waits
+  more_advanced : {p q : P} → 0 < length (state p).waiting → does p advances q → SideGets state does [] [] 0 p q
+  more_advanced {p} {q} waits h =
+      let alone : Chain does p (advances ∷ []) q = then h done in
+      let busy = busy_alone state alone waits in record { gets = gets_one advances h; read = refl; advanced = omega arith; idle = omega (arith, busy) }
+
+  both : {ds es : List Step} {ws vs : List ℕ} {n k : ℕ} {p q r : P} → SideGets state does ds ws n p q → SideGets state does es vs k q r → SideGets state does (ds ++ es) (ws ++ vs) (n + k) p r
   both x y = record {
     gets = gets_then x.gets y.gets;
     read = flat_map-append word_read x.gets.calls y.gets.calls ∙ ap₂ (λ (xs ys : List ℕ). xs ++ ys) x.read y.read;
     advanced = let sum = advances-append x.gets.calls y.gets.calls in let a = x.advanced in let b = y.advanced in omega (arith, sum, a, b);
+    idle = let sum = idle_append state x.gets.chain y.gets.chain in let a = x.idle in let b = y.idle in omega (arith, sum, a, b);
   }
 
-  fewer : {ds : List Step} {ws : List ℕ} {n k : ℕ} {p q : P} → k ≤ n → SideGets does ds ws n p q → SideGets does ds ws k p q
-  fewer h x = record { gets = x.gets; read = x.read; advanced = let a = x.advanced in omega (arith, h, a) }
-
-  drains_get : {state : P → State} {p q : P} → Drains state does p q → SideGets does [] [] 0 p q
+  drains_get : {p q : P} → Drains state does p q → SideGets state does [] [] 0 p q
   drains_get (empty none) = nothing refl
-  drains_get (more waits h rest) = fewer (omega arith) (both (one advances h) (drains_get rest))
+  drains_get (more waits h rest) = both (more_advanced waits h) (drains_get rest)
 
-  through_gets : {state : P → State} {p q : P} (w : Store) → Through state does w (Ok tt) p q → SideGets does (writes w (Ok tt) ∷ []) [] 0 p q
-  through_gets w x = fewer (omega arith) (both (one (writes w (Ok tt)) x.wrote) (drains_get x.drains))
+  through_gets : {p q : P} (w : Store) → Through state does w (Ok tt) p q → SideGets state does (writes w (Ok tt) ∷ []) [] 0 p q
+  through_gets w x = both (one (writes w (Ok tt)) x.wrote) (drains_get x.drains)
 
 -- ---- both sides
 
 module _ {L H : Type 0} {l : Ghosts L} {h : Ghosts H} (b c : JoinedMap L H l h) where
   abbrev Both : List Step → List Step → List ℕ → List ℕ → ℕ → Type 0
-  Both ds es ws vs n = SideGets l.does ds ws n b.low c.low × SideGets h.does es vs n b.high c.high
+  Both ds es ws vs n = SideGets l.state l.does ds ws n b.low c.low × SideGets h.state h.does es vs n b.high c.high
 
   untouched : c ≡ b → Both [] [] [] [] 0
   untouched e = (nothing (cc), nothing (cc))

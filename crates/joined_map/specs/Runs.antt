@@ -1,7 +1,8 @@
 -- What each side of a map gets in a run of calls.
 use Rattle.std.specs.Prelude.{◌≡◌, ℕ, ◌-◌, ◌≤◌, Bool, cond, not, List, [], ◌∷◌, ◌++◌, flat_map, Ok, Err, nat_lt}
 use Rattle.port.specs.declared.Port.{Ghosts}
-use Rattle.port.specs.Steps.{Step, reads, writes, advances, outsides, snoops, flushes, Chain, done, then, asked, word_read, advances_in, Gets}
+use Rattle.port.specs.Steps.{Step, reads, writes, advances, outsides, snoops, flushes, Chain, done, then, asked, word_read, advances_in, idle_advances, Gets}
+use Rattle.port.specs.Memory.{State}
 use Rattle.joined_map.specs.declared.JoinedMap.{JoinedMap}
 use Rattle.joined_map.specs.Steps.{split, end, MapDoes}
 
@@ -38,15 +39,16 @@ module _ {L H : Type 0} {l : Ghosts L} {h : Ghosts H} where
   along by done = []
   along by (then {p = b} {d = d} call rest) = by b d ++ along by rest
 
--- A side gets the calls ds, and reads of the words ws, each once and in order, and besides them nothing but advances: n at least, more than
--- that for what waits there.
-pub record SideGets {P : Type 0} (does : P → Step → P → Type 0) (ds : List Step) (ws : List ℕ) (n : ℕ) (p q : P) : Type 0 where
+-- A side gets the calls ds, and reads of the words ws, each once and in order, and besides them nothing but advances: n at least, and more than
+-- that only while something waits there.
+pub record SideGets {P : Type 0} (state : P → State) (does : P → Step → P → Type 0) (ds : List Step) (ws : List ℕ) (n : ℕ) (p q : P) : Type 0 where
   pub gets : Gets does asked ds p q
   pub read : flat_map word_read gets.calls ≡ ws
   pub advanced : n ≤ advances_in gets.calls
+  pub idle : idle_advances state gets.chain ≤ n
 
 -- However a map is called, each side gets every flush and every advance, and what was accepted for its own words.
 abbrev pub EachSideGetsItsOwn : {L H : Type 0} → Ghosts L → Ghosts H → Type 0
 EachSideGetsItsOwn {L} {H} l h = (b c : JoinedMap L H l h) (ds : List Step) (run : Chain MapDoes b ds c) →
-    SideGets l.does (along low_by run) (along low_words run) (advances_in ds) b.low c.low ×
-    SideGets h.does (along high_by run) (along high_words run) (advances_in ds) b.high c.high
+    SideGets l.state l.does (along low_by run) (along low_words run) (advances_in ds) b.low c.low ×
+    SideGets h.state h.does (along high_by run) (along high_words run) (advances_in ds) b.high c.high

@@ -55,6 +55,8 @@ refused_in_order = record {
   snooped = λ s a h. in_test a s.facts.words (past_end a s.facts.floor) h;
   marks_past = λ s k h. ap (λ (r : Answer). result_and r (Ok (s.facts.cacheable k, s.protected k))) (out_test k (s.facts.words / 8) (past_end k s.facts.floor) (omega arith));
   marks = λ s k h. ap (λ (r : Answer). result_and r (Ok (s.facts.cacheable k, s.protected k))) (in_test k (s.facts.words / 8) (past_end k s.facts.floor) (omega arith));
+  settled_past = λ s a h. ap (λ (r : Answer). result_and r (cond (s.settled.readable a) (Ok (s.settled.word a)) (Err (unreadable a)))) (out_test a s.facts.words (past_end a s.facts.floor) h);
+  settled_unreadable = λ s a. tell s.facts s.settled a false;
   settled = λ s a. tell s.facts s.settled a true;
 }
 

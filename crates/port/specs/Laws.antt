@@ -30,6 +30,8 @@ pub record RefusedInOrder : Type 0 where
   pub snooped : (s : State) (a : ℕ) → a < s.facts.words → snoop_answer s a ≡ Ok tt
   pub marks_past : (s : State) (k : ℕ) → s.facts.words < k * 8 + 8 → marks_answer s k ≡ Err (record { refusal = PastEnd; place = k; floor = s.facts.floor })
   pub marks : (s : State) (k : ℕ) → k * 8 + 8 ≤ s.facts.words → marks_answer s k ≡ Ok (s.facts.cacheable k, s.protected k)
+  pub settled_past : (s : State) (a : ℕ) → s.facts.words ≤ a → settled_answer s a ≡ Err (record { refusal = PastEnd; place = a; floor = s.facts.floor })
+  pub settled_unreadable : (s : State) (a : ℕ) → a < s.facts.words → s.settled.readable a ≡ false → settled_answer s a ≡ Err (record { refusal = Unreadable; place = a; floor = 0 })
   pub settled : (s : State) (a : ℕ) → a < s.facts.words → s.settled.readable a ≡ true → settled_answer s a ≡ Ok (s.settled.word a)
 
 -- Floors count the stages below, up to 255, and a waiting count is the length of the waiting line, up to 4,294,967,295.

@@ -103,6 +103,15 @@ abbrev pub advances_in : List Step → ℕ
 advances_in [] = 0
 advances_in (d ∷ ds) = advances_as (sort d).kind + advances_in ds
 
+-- How many advances of a chain were made on a port on which nothing waited.
+abbrev pub if_none_waits : List Store → ℕ → ℕ
+if_none_waits [] n = n
+if_none_waits (w ∷ ws) n = 0
+
+abbrev pub idle_advances : {P : Type 0} {does : P → Step → P → Type 0} {p q : P} {ds : List Step} → (P → State) → Chain does p ds q → ℕ
+idle_advances state done = 0
+idle_advances state (then {p = p} {d = d} h rest) = if_none_waits (state p).waiting (advances_as (sort d).kind) + idle_advances state rest
+
 -- What was accepted, but for reads.
 abbrev pub accepted : Step → List Step
 accepted d = cond (is_no_read (sort d).kind && (sort d).accepted) (d ∷ []) []

@@ -8,9 +8,10 @@ use Rattle.std.proofs.lemmas.List.Concat.{flat_map-append}
 use Rattle.std.specs.Option.{option_to_list as left}
 use Rattle.port.specs.declared.Port.{Ghosts}
 use Rattle.port.specs.declared.Store.{Store}
+use Rattle.port.specs.Memory.{State}
 use Rattle.port.specs.Meaning.{past_end, ByAnswer}
-use Rattle.port.specs.Steps.{Step, reads, writes, advances, outsides, snoops, flushes, Chain, done, then, sort, written, read_or_announced, advances_as, advances_in}
-use Rattle.port.proofs.Chains.{chain_append, advances-append, gets_then}
+use Rattle.port.specs.Steps.{Step, reads, writes, advances, outsides, snoops, flushes, Chain, done, then, sort, written, read_or_announced, advances_as, advances_in, idle_advances}
+use Rattle.port.proofs.Chains.{chain_append, advances-append, idle_append, idle_few, busy_alone, gets_then}
 use Rattle.write_buffer.specs.declared.buffer.WriteBuffer.{WriteBuffer}
 use Rattle.write_buffer.specs.Queues.{queued, leaving}
 use Rattle.write_buffer.specs.Buffering.{sends, PassesOn, Joins, SendsAndReads, SendsOn, settled, waited, AdvancesOne, below, oldest, idle, Does}
@@ -39,6 +40,10 @@ left_many (a ∷ b ∷ c ∷ []) h = refl
 left_many (a ∷ b ∷ c ∷ d ∷ []) h = refl
 left_many (a ∷ b ∷ c ∷ d ∷ e ∷ ws) h = absurd (omega arith)
 
+-- a chain with no advance has none where nothing waits
+calm : {P : Type 0} {does : P → Step → P → Type 0} (state : P → State) {p q : P} {ds : List Step} (x : Chain does p ds q) → advances_in ds ≡ 0 → idle_advances state x ≡ 0
+calm state x none = let few = idle_few state x in omega (arith, few, none)
+
 advances_sends : (ws : List Store) → advances_in (sends ws) ≡ 0
 advances_sends [] = refl
 advances_sends (w ∷ ws) = let more = advances_sends ws in omega (arith, more)
@@ -46,7 +51,7 @@ advances_sends (w ∷ ws) = let more = advances_sends ws in omega (arith, more)
 -- one call, and then a run
 below_then : {P : Type 0} {G : Ghosts P} (t u : Due) (d : Step) (ds : List Step) (b m c : WriteBuffer P G) →
     Below t (d ∷ []) b m → Below u ds m c → Below (and_then t u) (d ∷ ds) b c
-below_then t u d ds b m c x y =
+below_then {G = G} t u d ds b m c x y =
     let xs = x.gets.calls in
     let ys = y.gets.calls in
     let line : flat_map written (xs ++ ys) ≡ flat_map written xs ++ flat_map written ys = flat_map-append written xs ys in
@@ -57,31 +62,32 @@ below_then t u d ds b m c x y =
           ap (λ l. queued b.queue ++ (l ++ flat_map written ds)) (append-nil (written d));
       sent = ap length line ∙ length-append (flat_map written xs) (flat_map written ys) ∙ ap₂ (λ (i j : ℕ). i + j) x.sent y.sent;
       advanced = let sum = advances-append xs ys in omega (arith, sum, x.advanced, y.advanced);
+      busy = idle_append G.state x.gets.chain y.gets.chain ∙ ap₂ (λ (i j : ℕ). i + j) x.busy y.busy;
     }
 
 none_below : {P : Type 0} {G : Ghosts P} (b : WriteBuffer P G) → Below (due 0 [] 0) [] b b
-none_below b = record { gets = record { calls = []; chain = done; counted = refl }; order = sym (append-nil (queued b.queue)); sent = refl; advanced = omega arith }
+none_below b = record { gets = record { calls = []; chain = done; counted = refl }; order = sym (append-nil (queued b.queue)); sent = refl; advanced = omega arith; busy = refl }
 
 module _ {P : Type 0} {G : Ghosts P} (b c : WriteBuffer P G) where
   unchanged : (d : Step) → written d ≡ [] → c ≡ b → Below (due 0 [] 0) (d ∷ []) b c
-  unchanged d none e = record {
-    gets = record {
-      calls = [];
-      chain = let F : P → Type 0 = λ x. Chain G.does b.below [] x in subst F (sym (ap (λ (x : WriteBuffer P G). x.below) e)) done;
-      counted = refl;
-    };
+  unchanged d none e =
+    let F : P → Type 0 = λ x. Chain G.does b.below [] x in
+    let still = subst F (sym (ap (λ (x : WriteBuffer P G). x.below) e)) done in record {
+    gets = record { calls = []; chain = still; counted = refl };
     order = ap (λ (x : WriteBuffer P G). queued x.queue) e ∙ sym (append-nil (queued b.queue)) ∙ ap (λ (l : List Store). queued b.queue ++ (l ++ [])) (sym none);
     sent = refl;
     advanced = omega arith;
+    busy = calm G.state still refl;
   }
 
   -- a call passed on, with what it hands over
-  passed_below : (d : Step) (hs : List Step) → written d ≡ [] → read_or_announced d ≡ hs → PassesOn d b c → Below (due 0 hs (advances_as (sort d).kind)) (d ∷ []) b c
-  passed_below d hs none heard a = record {
+  passed_below : (d : Step) (hs : List Step) → written d ≡ [] → read_or_announced d ≡ hs → (a : PassesOn d b c) → idle_advances G.state a.below ≡ 0 → Below (due 0 hs (advances_as (sort d).kind)) (d ∷ []) b c
+  passed_below d hs none heard a busy = record {
     gets = record { calls = d ∷ []; chain = a.below; counted = append-nil (read_or_announced d) ∙ heard };
     order = ap (λ l. (l ++ []) ++ queued c.queue) none ∙ ap queued a.queue ∙ sym (append-nil (queued b.queue)) ∙ ap (λ (l : List Store). queued b.queue ++ (l ++ [])) (sym none);
     sent = ap (λ (l : List Store). length (l ++ [])) none;
     advanced = omega arith;
+    busy = busy;
   }
 
   read_below : (w : ℕ) (r : Result ℕ Fault) → SendsAndReads w r b c → Below (due (length (queued b.queue)) (reads w r ∷ []) 0) (reads w r ∷ []) b c
@@ -100,6 +106,7 @@ module _ {P : Type 0} {G : Ghosts P} (b c : WriteBuffer P G) where
         order = ap₂ (λ (xs ys : List Store). xs ++ ys) line a.queue;
         sent = ap length line;
         advanced = omega (arith, sum, none);
+        busy = calm G.state a.below (omega (arith, sum, none));
       }
 
   write_below : (w : Store) → Joins w b c → Below (due_by b (writes w (Ok tt))) (writes w (Ok tt) ∷ []) b c
@@ -112,6 +119,7 @@ module _ {P : Type 0} {G : Ghosts P} (b c : WriteBuffer P G) where
         order = ap (λ l. l ++ queued c.queue) (written_sends gone) ∙ ap (λ l. gone ++ l) a.queue ∙ oldest_leaves_first.whole w ws;
         sent = ap length (written_sends gone) ∙ left_many ws (at_most_four b.queue);
         advanced = omega (arith, none);
+        busy = calm G.state a.below none;
       }
 
   sent_below : (w : Store) → queued b.queue ≡ w ∷ queued c.queue → SendsOn G.state G.does w b.below c.below → Below (due 1 [] 1) (advances ∷ []) b c
@@ -120,12 +128,14 @@ module _ {P : Type 0} {G : Ghosts P} (b c : WriteBuffer P G) where
     order = sym line ∙ sym (append-nil (queued b.queue));
     sent = refl;
     advanced = omega arith;
+    busy = calm G.state chain refl;
   }
   sent_below w line (waited middle sent waits chain) = record {
     gets = record { calls = writes w (Ok tt) ∷ advances ∷ []; chain = chain_append sent chain; counted = refl };
     order = sym line ∙ sym (append-nil (queued b.queue));
     sent = refl;
     advanced = omega arith;
+    busy = idle_append G.state sent chain ∙ ap₂ (λ (i j : ℕ). i + j) (calm G.state sent refl) (busy_alone G.state chain waits);
   }
 
   -- what an advance owes, by the two lines
@@ -136,7 +146,7 @@ module _ {P : Type 0} {G : Ghosts P} (b c : WriteBuffer P G) where
   advance_below (below waits a) =
       let e : owed (G.state b.below).waiting (queued b.queue) ≡ due 0 [] 1 = cond-false (eqb (length (G.state b.below).waiting) 0) _ _ (grind (arith, nat_tests)) in
       let F : Due → Type 0 = λ t. Below t (advances ∷ []) b c in
-      subst F (sym e) (passed_below advances [] refl refl a)
+      subst F (sym e) (passed_below advances [] refl refl a (busy_alone G.state a.below waits))
   advance_below (oldest w none line a) =
       let many : min 1 (length (w ∷ queued c.queue)) ≡ 1 = omega arith in
       let F : Due → Type 0 = λ t. Below t (advances ∷ []) b c in
@@ -156,11 +166,11 @@ module _ {P : Type 0} {G : Ghosts P} (b c : WriteBuffer P G) where
   step_below (writes w (Ok _)) a = write_below w a
   step_below (writes w (Err e)) a = unchanged (writes w (Err e)) refl a
   step_below advances a = advance_below a
-  step_below (outsides w (Ok u)) a = passed_below (outsides w (Ok u)) _ refl refl a
+  step_below (outsides w (Ok u)) a = passed_below (outsides w (Ok u)) _ refl refl a (calm G.state a.below refl)
   step_below (outsides w (Err e)) a = unchanged (outsides w (Err e)) refl a
-  step_below (snoops w (Ok u)) a = passed_below (snoops w (Ok u)) _ refl refl a
+  step_below (snoops w (Ok u)) a = passed_below (snoops w (Ok u)) _ refl refl a (calm G.state a.below refl)
   step_below (snoops w (Err e)) a = unchanged (snoops w (Err e)) refl a
-  step_below flushes a = passed_below flushes _ refl refl a
+  step_below flushes a = passed_below flushes _ refl refl a (calm G.state a.below refl)
 
 run_below : {P : Type 0} {G : Ghosts P} (b c : WriteBuffer P G) (ds : List Step) (run : Chain Does b ds c) → Below (due_along run) ds b c
 run_below b c [] done = none_below b

@@ -1,7 +1,7 @@
 -- What the port below a buffer gets in a run of calls.
 use Rattle.std.specs.Prelude.{◌≡◌, ℕ, ◌+◌, ◌≤◌, min, cond, List, [], ◌∷◌, ◌++◌, length, flat_map, Ok, Err, ◌==◌, nat_lt}
 use Rattle.port.specs.declared.Port.{Ghosts}
-use Rattle.port.specs.Steps.{Step, reads, writes, advances, outsides, snoops, flushes, Chain, done, then, written, announced, read_or_announced, advances_in, Gets}
+use Rattle.port.specs.Steps.{Step, reads, writes, advances, outsides, snoops, flushes, Chain, done, then, written, announced, read_or_announced, advances_in, idle_advances, Gets}
 use Rattle.write_buffer.specs.declared.buffer.WriteBuffer.{WriteBuffer}
 use Rattle.write_buffer.specs.Queues.{queued}
 use Rattle.write_buffer.specs.Buffering.{Does}
@@ -42,6 +42,8 @@ pub record Below {P : Type 0} {G : Ghosts P} (t : Due) (ds : List Step) (b c : W
   pub order : flat_map written gets.calls ++ queued c.queue ≡ queued b.queue ++ flat_map written ds
   pub sent : length (flat_map written gets.calls) ≡ t.sent
   pub advanced : advances_in gets.calls ≤ t.advances
+  -- the port below is advanced only while a write waits there
+  pub busy : idle_advances G.state gets.chain ≡ 0
 
 -- However a buffer is called, no write is lost, doubled, overtaken or hurried, and whatever stages have to hear of goes through: at one
 -- call, and over whole runs.
