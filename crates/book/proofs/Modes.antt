@@ -169,29 +169,18 @@ says_of floor c (Err x) fault e =
     let F : Fault → Type 0 = λ y. Says floor c y in
     subst F same (record { place = refl; floor_is = refl })
 
-low_floor : (f : ℕ) (x : Refusal) → number_of x ≤ 2 → floor_for f x ≡ f
-low_floor f PastEnd h = refl
-low_floor f BadLanes h = refl
-low_floor f Unreadable h = absurd (omega arith)
-low_floor f IsLocked h = absurd (omega arith)
-low_floor f IsGranted h = absurd (omega arith)
-low_floor f NotLocked h = absurd (omega arith)
-low_floor f NotGranted h = absurd (omega arith)
-low_floor f UnfitSize h = absurd (omega arith)
-low_floor f ListLength h = absurd (omega arith)
-low_floor f ListWord h = absurd (omega arith)
-
-no_floor : (f : ℕ) (x : Refusal) → number_of x ≡ 3 → floor_for f x ≡ 0
-no_floor f PastEnd h = absurd (omega arith)
-no_floor f BadLanes h = absurd (omega arith)
-no_floor f Unreadable h = refl
-no_floor f IsLocked h = absurd (omega arith)
-no_floor f IsGranted h = absurd (omega arith)
-no_floor f NotLocked h = absurd (omega arith)
-no_floor f NotGranted h = absurd (omega arith)
-no_floor f UnfitSize h = absurd (omega arith)
-no_floor f ListLength h = absurd (omega arith)
-no_floor f ListWord h = absurd (omega arith)
+-- the port tells what has a number up to 2, a bank what has 3
+by_number : (f : ℕ) (x : Refusal) → (number_of x ≤ 2 → floor_for f x ≡ f) × (number_of x ≡ 3 → floor_for f x ≡ 0)
+by_number f PastEnd = (λ h. refl, λ h. absurd (omega arith))
+by_number f BadLanes = (λ h. refl, λ h. absurd (omega arith))
+by_number f Unreadable = (λ h. absurd (omega arith), λ h. refl)
+by_number f IsLocked = (λ h. absurd (omega arith), λ h. absurd (omega arith))
+by_number f IsGranted = (λ h. absurd (omega arith), λ h. absurd (omega arith))
+by_number f NotLocked = (λ h. absurd (omega arith), λ h. absurd (omega arith))
+by_number f NotGranted = (λ h. absurd (omega arith), λ h. absurd (omega arith))
+by_number f UnfitSize = (λ h. absurd (omega arith), λ h. absurd (omega arith))
+by_number f ListLength = (λ h. absurd (omega arith), λ h. absurd (omega arith))
+by_number f ListWord = (λ h. absurd (omega arith), λ h. absurd (omega arith))
 
 pub answered : (b : Book) (m : Moment) → m.answer ≡ answer b m.call → AnsweredIn b.state.facts.floor b.mode m
 answered b m e = record {
@@ -203,8 +192,8 @@ answered b m e = record {
       mild_told floor c (fits n (cargo_of c)) (says b.state c) fault (mild_fits n (cargo_of c)) (mild_says b.state c)
       (ap (λ (o : Option Refusal). told floor c (unless (or_else o (fits n (cargo_of c))) (says b.state c))) (sym none_stops) ∙ sym e ∙ a);
   place = λ fault t a. (said fault a).place ∙ (plain c).place;
-  below = λ fault t a h. (said fault a).floor_is ∙ low_floor floor fault.refusal h;
-  unreadable = λ fault a h. (said fault a).floor_is ∙ no_floor floor fault.refusal h;
+  below = λ fault t a h. (said fault a).floor_is ∙ (by_number floor fault.refusal).0 h;
+  unreadable = λ fault a h. (said fault a).floor_is ∙ (by_number floor fault.refusal).1 h;
 }
   where
     c : Call

@@ -36,20 +36,20 @@ touched_twice m One = refl
 touched_twice m Two = refl
 touched_twice m Three = refl
 
-marks_here : (d : Dir) (i : ℕ) (k : WayNumber) → (touched d i k).lru i ≡ touched_bits (d.lru i) k
-marks_here d i k = cond-true (eqb i i) (touched_bits (d.lru i) k) (d.lru i) (eq-eqb i i refl)
+bits_here : (d : Dir) (i : ℕ) (k : WayNumber) → (touched d i k).lru i ≡ touched_bits (d.lru i) k
+bits_here d i k = cond-true (eqb i i) (touched_bits (d.lru i) k) (d.lru i) (eq-eqb i i refl)
 
-marks_there : (d : Dir) (i j : ℕ) (k : WayNumber) → j ≢ i → (touched d i k).lru j ≡ d.lru j
-marks_there d i j k n = cond-false (eqb j i) (touched_bits (d.lru j) k) (d.lru j) (ne_eqb j i n)
+bits_there : (d : Dir) (i j : ℕ) (k : WayNumber) → j ≢ i → (touched d i k).lru j ≡ d.lru j
+bits_there d i j k n = cond-false (eqb j i) (touched_bits (d.lru j) k) (d.lru j) (ne_eqb j i n)
 
 -- e has the LRU bits of d
 pub touch_touches : (d e : Dir) (line : ℕ) (k : WayNumber) → e.lru ≡ d.lru → WayIsTouched d (touched e (set_of line) k) line k
 touch_touches d e line k same =
     let i = set_of line in
-    let once : (touched e i k).lru i ≡ touched_bits (d.lru i) k = marks_here e i k ∙ ap (λ (f : ℕ → LruBits). touched_bits (f i) k) same in
+    let once : (touched e i k).lru i ≡ touched_bits (d.lru i) k = bits_here e i k ∙ ap (λ (f : ℕ → LruBits). touched_bits (f i) k) same in
     record {
       lru = subst (λ (m : LruBits). TouchSetsItsPair (d.lru i) m k) (sym once) (touch_sets (d.lru i) k);
-      others = λ j n. marks_there e i j k n ∙ ap (λ (f : ℕ → LruBits). f j) same;
+      others = λ j n. bits_there e i j k n ∙ ap (λ (f : ℕ → LruBits). f j) same;
     }
 
 -- e has them as they are once the way was touched
@@ -57,10 +57,10 @@ pub touch_again : (d e : Dir) (line : ℕ) (k : WayNumber) → e.lru ≡ (touche
 touch_again d e line k same =
     let i = set_of line in
     let twice : (touched e i k).lru i ≡ touched_bits (d.lru i) k =
-    marks_here e i k ∙ ap (λ (f : ℕ → LruBits). touched_bits (f i) k) same ∙ ap (λ (m : LruBits). touched_bits m k) (marks_here d i k) ∙ touched_twice (d.lru i) k in
+    bits_here e i k ∙ ap (λ (f : ℕ → LruBits). touched_bits (f i) k) same ∙ ap (λ (m : LruBits). touched_bits m k) (bits_here d i k) ∙ touched_twice (d.lru i) k in
     record {
       lru = subst (λ (m : LruBits). TouchSetsItsPair (d.lru i) m k) (sym twice) (touch_sets (d.lru i) k);
-      others = λ j n. marks_there e i j k n ∙ ap (λ (f : ℕ → LruBits). f j) same ∙ marks_there d i j k n;
+      others = λ j n. bits_there e i j k n ∙ ap (λ (f : ℕ → LruBits). f j) same ∙ bits_there d i j k n;
     }
 
 two_spared : (m : LruBits) (j k : WayNumber) → victim_of (touched_bits (touched_bits m j) k) ≢ j
@@ -82,41 +82,41 @@ two_spared m Three Two = neither m.m1 One Zero Three (λ e. absurd (cc)) (λ e. 
 two_spared m Three Three = neither m.m1 One Zero Three (λ e. absurd (cc)) (λ e. absurd (cc))
 
 all_in_turn : (m : LruBits) (k : WayNumber) → is_some (find (same_way k) (victims 4 m)) ≡ true
-all_in_turn m k = by_marks m.m0 m.m1 m.m2 k
+all_in_turn m k = by_bits m.m0 m.m1 m.m2 k
   where
-    by_marks : (a b c : Bool) (k : WayNumber) → is_some (find (same_way k) (victims 4 (record { m0 = a; m1 = b; m2 = c }))) ≡ true
-    by_marks true true true Zero = refl
-    by_marks true true true One = refl
-    by_marks true true true Two = refl
-    by_marks true true true Three = refl
-    by_marks true true false Zero = refl
-    by_marks true true false One = refl
-    by_marks true true false Two = refl
-    by_marks true true false Three = refl
-    by_marks true false true Zero = refl
-    by_marks true false true One = refl
-    by_marks true false true Two = refl
-    by_marks true false true Three = refl
-    by_marks true false false Zero = refl
-    by_marks true false false One = refl
-    by_marks true false false Two = refl
-    by_marks true false false Three = refl
-    by_marks false true true Zero = refl
-    by_marks false true true One = refl
-    by_marks false true true Two = refl
-    by_marks false true true Three = refl
-    by_marks false true false Zero = refl
-    by_marks false true false One = refl
-    by_marks false true false Two = refl
-    by_marks false true false Three = refl
-    by_marks false false true Zero = refl
-    by_marks false false true One = refl
-    by_marks false false true Two = refl
-    by_marks false false true Three = refl
-    by_marks false false false Zero = refl
-    by_marks false false false One = refl
-    by_marks false false false Two = refl
-    by_marks false false false Three = refl
+    by_bits : (a b c : Bool) (k : WayNumber) → is_some (find (same_way k) (victims 4 (record { m0 = a; m1 = b; m2 = c }))) ≡ true
+    by_bits true true true Zero = refl
+    by_bits true true true One = refl
+    by_bits true true true Two = refl
+    by_bits true true true Three = refl
+    by_bits true true false Zero = refl
+    by_bits true true false One = refl
+    by_bits true true false Two = refl
+    by_bits true true false Three = refl
+    by_bits true false true Zero = refl
+    by_bits true false true One = refl
+    by_bits true false true Two = refl
+    by_bits true false true Three = refl
+    by_bits true false false Zero = refl
+    by_bits true false false One = refl
+    by_bits true false false Two = refl
+    by_bits true false false Three = refl
+    by_bits false true true Zero = refl
+    by_bits false true true One = refl
+    by_bits false true true Two = refl
+    by_bits false true true Three = refl
+    by_bits false true false Zero = refl
+    by_bits false true false One = refl
+    by_bits false true false Two = refl
+    by_bits false true false Three = refl
+    by_bits false false true Zero = refl
+    by_bits false false true One = refl
+    by_bits false false true Two = refl
+    by_bits false false true Three = refl
+    by_bits false false false Zero = refl
+    by_bits false false false One = refl
+    by_bits false false false Two = refl
+    by_bits false false false Three = refl
 
 pub victims_go_round : VictimsGoRound
 victims_go_round = record { two = two_spared; four = all_in_turn }
