@@ -119,29 +119,28 @@ impl<P: Port> Board<P> {
     {
         // The mode and the call together decide: a row for each that is taken, and then the refusals.
         match (call, self.mode) {
-            (Call::Read(word), Mode::Free | Mode::Granted) => self
-                .port
-                .read(word)
-                .map(Answer::Word),
-            (Call::Write(write), Mode::Free | Mode::Granted) => self
-                .port
-                .write(write)
-                .map(|()| Answer::Done),
-            (Call::Unposted(write), Mode::Free | Mode::Granted) => write_through(
-                &mut self.port,
-                write,
-            ).map(|()| Answer::Done),
-            (Call::LockedWrite(write), Mode::Locked) => write_through(&mut self.port, write).map(
-                |()| Answer::Done,
-            ),
-            (Call::LockedRead(word), Mode::Locked) | (Call::MasterRead(word), Mode::Granted) => self
-                .port
-                .settled_read(word)
-                .map(Answer::Word),
-            (Call::MasterWrite(write), Mode::Granted) => self
-                .port
-                .outside_write(write)
-                .map(|()| Answer::Done),
+            (Call::Read(word), Mode::Free | Mode::Granted) => {
+                Ok(Answer::Word(self.port.read(word)?))
+            }
+            (Call::Write(write), Mode::Free | Mode::Granted) => {
+                self.port.write(write)?;
+                Ok(Answer::Done)
+            }
+            (Call::Unposted(write), Mode::Free | Mode::Granted) => {
+                write_through(&mut self.port, write)?;
+                Ok(Answer::Done)
+            }
+            (Call::LockedWrite(write), Mode::Locked) => {
+                write_through(&mut self.port, write)?;
+                Ok(Answer::Done)
+            }
+            (Call::LockedRead(word), Mode::Locked) | (Call::MasterRead(word), Mode::Granted) => {
+                Ok(Answer::Word(self.port.settled_read(word)?))
+            }
+            (Call::MasterWrite(write), Mode::Granted) => {
+                self.port.outside_write(write)?;
+                Ok(Answer::Done)
+            }
             (Call::Lock, Mode::Free) => {
                 settle_all(&mut self.port);
                 self.mode = Mode::Locked;
@@ -159,7 +158,10 @@ impl<P: Port> Board<P> {
                 self.port.advance();
                 Ok(Answer::Done)
             }
-            (Call::Snoop(word), _) => self.port.snoop(word).map(|()| Answer::Done),
+            (Call::Snoop(word), _) => {
+                self.port.snoop(word)?;
+                Ok(Answer::Done)
+            }
             (Call::Flush, _) => {
                 self.port.flush();
                 Ok(Answer::Done)
