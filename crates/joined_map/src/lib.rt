@@ -109,8 +109,8 @@ impl<L: Port, H: Port> Port for JoinedMap<L, H> {
         check_range(line, self.words() / 8, self.floor())?;
         let split = self.split / 8;
         match line.checked_sub(split) {
-            None => self.low.marks(line),
-            Some(line) => shifted(split, self.high.marks(line)),
+            None => Ok(self.low.marks(line)?),
+            Some(line) => Ok(shifted(split, self.high.marks(line))?),
         }
     }
 
@@ -122,8 +122,8 @@ impl<L: Port, H: Port> Port for JoinedMap<L, H> {
         check_range(word, self.words(), self.floor())?;
         let split = self.split;
         match word.checked_sub(split) {
-            None => self.low.read(word),
-            Some(word) => shifted(split, self.high.read(word)),
+            None => Ok(self.low.read(word)?),
+            Some(word) => Ok(shifted(split, self.high.read(word))?),
         }
     }
 
@@ -132,11 +132,11 @@ impl<L: Port, H: Port> Port for JoinedMap<L, H> {
         check_write(write, self.words(), self.floor())?;
         let split = self.split;
         match write.word.checked_sub(split) {
-            None => write_through(&mut self.low, write),
-            Some(word) => shifted(
+            None => Ok(write_through(&mut self.low, write)?),
+            Some(word) => Ok(shifted(
                 split,
                 write_through(&mut self.high, Store { word, ..write }),
-            ),
+            )?),
         }
     }
 
@@ -149,8 +149,8 @@ impl<L: Port, H: Port> Port for JoinedMap<L, H> {
         check_range(word, self.words(), self.floor())?;
         let split = self.split;
         match word.checked_sub(split) {
-            None => self.low.settled_read(word),
-            Some(word) => shifted(split, self.high.settled_read(word)),
+            None => Ok(self.low.settled_read(word)?),
+            Some(word) => Ok(shifted(split, self.high.settled_read(word))?),
         }
     }
 
@@ -159,8 +159,8 @@ impl<L: Port, H: Port> Port for JoinedMap<L, H> {
         check_write(write, self.words(), self.floor())?;
         let split = self.split;
         match write.word.checked_sub(split) {
-            None => self.low.outside_write(write),
-            Some(word) => shifted(split, self.high.outside_write(Store { word, ..write })),
+            None => Ok(self.low.outside_write(write)?),
+            Some(word) => Ok(shifted(split, self.high.outside_write(Store { word, ..write }))?),
         }
     }
 
@@ -168,8 +168,8 @@ impl<L: Port, H: Port> Port for JoinedMap<L, H> {
         check_range(word, self.words(), self.floor())?;
         let split = self.split;
         match word.checked_sub(split) {
-            None => self.low.snoop(word),
-            Some(word) => shifted(split, self.high.snoop(word)),
+            None => Ok(self.low.snoop(word)?),
+            Some(word) => Ok(shifted(split, self.high.snoop(word))?),
         }
     }
 

@@ -71,14 +71,14 @@ none_below b = record { gets = record { calls = []; chain = done; counted = refl
 module _ {P : Type 0} {G : Ghosts P} (b c : WriteBuffer P G) where
   unchanged : (d : Step) → written d ≡ [] → c ≡ b → Below (due 0 [] 0) (d ∷ []) b c
   unchanged d none e =
-    let F : P → Type 0 = λ x. Chain G.does b.below [] x in
-    let still = subst F (sym (ap (λ (x : WriteBuffer P G). x.below) e)) done in record {
-    gets = record { calls = []; chain = still; counted = refl };
-    order = ap (λ (x : WriteBuffer P G). queued x.queue) e ∙ sym (append-nil (queued b.queue)) ∙ ap (λ (l : List Store). queued b.queue ++ (l ++ [])) (sym none);
-    sent = refl;
-    advanced = omega arith;
-    busy = calm G.state still refl;
-  }
+      let F : P → Type 0 = λ x. Chain G.does b.below [] x in
+      let still = subst F (sym (ap (λ (x : WriteBuffer P G). x.below) e)) done in record {
+        gets = record { calls = []; chain = still; counted = refl };
+        order = ap (λ (x : WriteBuffer P G). queued x.queue) e ∙ sym (append-nil (queued b.queue)) ∙ ap (λ (l : List Store). queued b.queue ++ (l ++ [])) (sym none);
+        sent = refl;
+        advanced = omega arith;
+        busy = calm G.state still refl;
+      }
 
   -- a call passed on, with what it hands over
   passed_below : (d : Step) (hs : List Step) → written d ≡ [] → read_or_announced d ≡ hs → (a : PassesOn d b c) → idle_advances G.state a.below ≡ 0 → Below (due 0 hs (advances_as (sort d).kind)) (d ∷ []) b c
