@@ -95,6 +95,8 @@ impl<P: Port> Board<P> {
     }
 
     /// The port as the board leaves it.
+    // Kept apart, as compiled together with a caller's own moves of a whole cache it keeps the compiler busy for hours.
+    #[inline(never)]
     pub fn into_port(self) -> P
         ensures { result ≡ self.port }
     {

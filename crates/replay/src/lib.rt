@@ -5,7 +5,7 @@ ghost use Rattle.std.specs.Prelude.{◌≡◌, IfOk, MatchResult};
 ghost use Rattle.replay.specs.Rows.{word_at, row_at};
 ghost use Rattle.replay.specs.Incident.{incident_calls, RowStands, MadeOnABoard, RowsAreTheAnswers, ReadsTheNewestRow};
 
-use board::{Board, run};
+use board::run;
 use book::Answer;
 use calls::Call;
 use fault::Fault;
@@ -118,14 +118,6 @@ fn row_at(answers: &[Result<Answer, Fault>], first: usize) -> Option<Row>
     })
 }
 
-// Stands by itself for the compiler: where the moves of a whole cache here are compiled together with those of a replay, they keep it busy for hours.
-#[inline(never)]
-fn port_of<P: Port>(board: Board<P>) -> P
-    ensures { result ≡ board.port }
-{
-    board.into_port()
-}
-
 /// Replays the incident on a board over a port, with the display's clear or without it. Where there is no memory no call is made, and the port comes
 /// back as it was.
 pub fn replay<P: Port>(alloc: Global, port: P, clears: bool) -> Result<Replayed<P>, AllocFailed<P>>
@@ -141,7 +133,7 @@ pub fn replay<P: Port>(alloc: Global, port: P, clears: bool) -> Result<Replayed<
     let answers = outcome.answers;
     let before = row_at(&answers, FIRST_READING);
     let after = row_at(&answers, LAST_READING + usize::from(clears));
-    let left = port_of(outcome.board);
+    let left = outcome.board.into_port();
     Ok(Replayed {
         calls,
         answers,
