@@ -1,5 +1,5 @@
 -- What a call on one side does to a map of two.
-use Rattle.std.proofs.Common.{◌≡◌, ℕ, refl, ◌-◌, ◌/◌, ◌%◌, ◌<◌, ◌≤◌, [], ◌∷◌, Ok, Err, Result, ap, ◌∙◌, arith}
+use Rattle.std.proofs.Common.{◌≡◌, ℕ, refl, ◌-◌, ◌/◌, ◌%◌, ◌<◌, ◌≤◌, [], ◌∷◌, Ok, Err, Result, ap, sym, ◌∙◌, arith}
 use Rattle.std.proofs.lemmas.Bool.Decides.{nat_tests}
 use Rattle.fault.specs.declared.Fault.{Fault}
 use Rattle.port.specs.declared.Store.{Store}
@@ -13,11 +13,8 @@ pub none_left : (s t : State) → s.waiting ≡ [] → Settles s t → t.waiting
 none_left s t none after = ap (λ (x : State). x.waiting) (settles_still s t none after) ∙ none
 
 -- and its facts are as they were
-pub words_left : (s t : State) → s.waiting ≡ [] → Settles s t → t.facts.words ≡ s.facts.words
-words_left s t none after = ap (λ (x : State). x.facts.words) (settles_still s t none after)
-
-pub floor_left : (s t : State) → s.waiting ≡ [] → Settles s t → t.facts.floor ≡ s.facts.floor
-floor_left s t none after = ap (λ (x : State). x.facts.floor) (settles_still s t none after)
+pub facts_left : (s t : State) → s.waiting ≡ [] → Settles s t → s.facts ≡ t.facts
+facts_left s t none after = sym (ap (λ (x : State). x.facts) (settles_still s t none after))
 
 module _ (a b : State) (lined : a.facts.words % 8 ≡ 0) where
   outside_low : (w : Store) → w.word < a.facts.words → joint_state (outside w a) b ≡ outside w (joint_state a b)

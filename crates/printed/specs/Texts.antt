@@ -1,5 +1,5 @@
 -- The text of every line that headcard prints.
-use Rattle.std.specs.Prelude.{ℕ, ◌/◌, ◌%◌, true, List, [], ◌∷◌, ◌++◌, Ok, Err, codes, decimal, Result}
+use Rattle.std.specs.Prelude.{ℕ, ◌/◌, ◌%◌, ◌^◌, true, List, [], ◌∷◌, ◌++◌, Ok, Err, codes, decimal, Result}
 use Rattle.std.specs.Fmt.{digit_glyph}
 use Rattle.fault.specs.declared.Fault.{Fault}
 use Rattle.fault.specs.declared.Refusal.{Refusal}
@@ -17,7 +17,7 @@ abbrev pub hex_digit : ℕ → List ℕ
 hex_digit n = digit_glyph true n ∷ []
 
 abbrev pub hex_word : ℕ → List ℕ
-hex_word v = hex_digit (v / 4096) ++ (hex_digit (v / 256 % 16) ++ (hex_digit (v / 16 % 16) ++ hex_digit (v % 16)))
+hex_word v = hex_digit (v / 2 ^ 12) ++ (hex_digit (v / 2 ^ 8 % 16) ++ (hex_digit (v / 16 % 16) ++ hex_digit (v % 16)))
 
 -- What a call came to.
 abbrev pub outcome_text : Result Answer Fault → List ℕ
