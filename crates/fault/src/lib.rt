@@ -66,7 +66,7 @@ pub struct Fault {
     pub refusal: Refusal,
     /// A word, line or set number, the index of a list word, or 0: each refusal is printed with a place.
     pub place: u32,
-    /// How many stages stand below the one that refused; 0 is a bank, a list or a size question.
+    /// The floor of the part that refused: how high it stands in its pile. 0 is a bank, a list or a size question.
     pub floor: u8,
 }
 

@@ -34,7 +34,8 @@ pub record RefusedInOrder : Type 0 where
   pub settled_unreadable : (s : State) (a : ℕ) → a < s.facts.words → s.settled.readable a ≡ false → settled_answer s a ≡ Err (record { refusal = Unreadable; place = a; floor = 0 })
   pub settled : (s : State) (a : ℕ) → a < s.facts.words → s.settled.readable a ≡ true → settled_answer s a ≡ Ok (s.settled.word a)
 
--- Floors count the stages below, up to 255, and a waiting count is the length of the waiting line, up to 4,294,967,295.
+-- A stage is one floor higher than what it stands on, up to floor 255, and a waiting count is the length of the waiting line, up to
+-- 4,294,967,295.
 pub record CountsStop : Type 0 where
   pub floor : (n : ℕ) → n < 255 → floor_above n ≡ n + 1
   pub top : (n : ℕ) → 255 ≤ n → floor_above n ≡ 255

@@ -92,7 +92,7 @@ pub trait Port {
     fn words(&self) -> u32
         ensures { result ≡ (state self.now).facts.words };
 
-    /// How many stages stand below, up to 255.
+    /// How high the port stands in its pile: 0 for a bank, one more for each map or stage over it, up to 255.
     fn floor(&self) -> u8
         ensures { result ≡ (state self.now).facts.floor };
 
