@@ -332,8 +332,6 @@ module _ (v : Shown) (d : Dir) (b : Fill) (c : Coherent v (record { dir = d; fil
         (ap (λ (m : Model). m.fill) same, ap (λ (m : Model). m.dir) same);
   }
 
--- ---- an advance
-
 pub advances_fetch_one : (v : Shown) (d : Dir) (f : Option Fill) (b : Fill) → Coherent v (record { dir = d; fill = f }) → f ≡ Some b → OneWordComes v (record { dir = d; fill = f }) b
 advances_fetch_one v d None b c e = absurd (cc)
 advances_fetch_one v d (Some a) b c e = given (λ (x : Fill). OneWordComes v (record { dir = d; fill = Some a }) x) a b e (one_word_comes v d a c)
