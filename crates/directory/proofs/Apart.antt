@@ -120,7 +120,14 @@ apart_changed d word k value a =
 
 -- ---- the law of an install
 
+-- where a way holds a line, no other way does
+not_two : (d : Dir) → TagsAreApart d → (line : ℕ) (k : WayNumber) → holds d line k ≡ true → (j : WayNumber) → (index_of j ≡ index_of k → ⊥) → holds d line j ≡ false
+not_two d a line k h j n = elim (cases_Bool (holds d line j)) [ inl y ↦ absurd (n (ap index_of (one d a line j k y h))) | inr f ↦ f ]
+
 module _ (d : Dir) (line : ℕ) (k : WayNumber) (protect : Bool) (words : List ℕ) (a : TagsAreApart d) (e : found d line ≡ None) where
+  abbrev here : Option Way
+  here = Some (filled_way (tag_of line) protect words)
+
   -- a way that holds a line and was not replaced is as it was
   unmoved : (other : ℕ) (j : WayNumber) → (set_of other ≡ set_of line → j ≢ k) → (put d (set_of line) k (Some (filled_way (tag_of line) protect words))).way (set_of other) j ≡ d.way (set_of other) j
   unmoved other j n =
@@ -129,6 +136,11 @@ module _ (d : Dir) (line : ℕ) (k : WayNumber) (protect : Bool) (words : List �
         | inr away ↦ put_other_set d (set_of line) k (Some (filled_way (tag_of line) protect words)) (set_of other) j away
       ]
 
+  -- the way that the line went into holds no other
+  new_way : (other : ℕ) → other ≢ line → set_of other ≡ set_of line → (j : WayNumber) → index_of j ≡ index_of k → holds (put d (set_of line) k here) other j ≡ false
+  new_way other n e j jk =
+      ap (has_tag (tag_of other)) (put_here d (set_of line) k here (set_of other) j e jk) ∙ ne_eqb (tag_of line) (tag_of other) (λ g. n (omega arith))
+
   pub install_keeps : InstallKeepsOtherLines d (installed d line k protect words) line k
   install_keeps = record {
     new = finds (installed d line k protect words) (apart_installed d line k protect words a e) line k
@@ -136,6 +148,17 @@ module _ (d : Dir) (line : ℕ) (k : WayNumber) (protect : Bool) (words : List �
     touch = touch_touches d (put d (set_of line) k (Some (filled_way (tag_of line) protect words))) line k refl;
     others = λ other j f n. finds (installed d line k protect words) (apart_installed d line k protect words a e) other j
         (ap (has_tag (tag_of other)) (unmoved other j n) ∙ held d other j f);
+    displaced = λ other n e f. unheld (installed d line k protect words) other (λ j. elim (cases_eq (index_of j) (index_of k)) [
+      | inl jk ↦ new_way other n e j jk
+      | inr jn ↦ ap (has_tag (tag_of other)) (put_other_way d (set_of line) k here (set_of other) j jn) ∙ not_two d a other k (held d other k f) j jn
+    ]);
+    no_more = λ other n f. unheld (installed d line k protect words) other (λ j. elim (cases_eq (set_of other) (set_of line)) [
+      | inr away ↦ ap (has_tag (tag_of other)) (put_other_set d (set_of line) k here (set_of other) j away) ∙ absent d other f j
+      | inl e ↦ elim (cases_eq (index_of j) (index_of k)) [
+        | inl jk ↦ new_way other n e j jk
+        | inr jn ↦ ap (has_tag (tag_of other)) (put_other_way d (set_of line) k here (set_of other) j jn) ∙ absent d other f j
+      ]
+    ]);
   }
 
 -- ---- the law of a drop
@@ -155,11 +178,8 @@ module _ (d : Dir) (line : ℕ) (a : TagsAreApart d) where
     gone_way j =
         elim (cases_eq (index_of j) (index_of k)) [
           | inl e ↦ ap (has_tag (tag_of line)) (put_here d (set_of line) k None (set_of line) j refl e)
-          | inr n ↦ ap (has_tag (tag_of line)) (put_other_way d (set_of line) k None (set_of line) j n) ∙ not_two j n
+          | inr n ↦ ap (has_tag (tag_of line)) (put_other_way d (set_of line) k None (set_of line) j n) ∙ not_two d a line k h j n
         ]
-      where
-        not_two : (j : WayNumber) → (index_of j ≡ index_of k → ⊥) → holds d line j ≡ false
-        not_two j n = elim (cases_Bool (holds d line j)) [ inl y ↦ absurd (n (ap index_of (one d a line j k y h))) | inr f ↦ f ]
 
     other_way : (other : ℕ) → other ≢ line → (j : WayNumber) → holds (put d (set_of line) k None) other j ≡ holds d other j
     other_way other n j =
@@ -173,13 +193,13 @@ module _ (d : Dir) (line : ℕ) (a : TagsAreApart d) where
         ]
 
     pub put_forgets : DropForgetsOneLine d (put d (set_of line) k None) line
-    put_forgets = record { gone = unheld (put d (set_of line) k None) line gone_way; others = λ other n. λ m. find (λ j. other_way other n j m) every_way }
+    put_forgets = record { gone = unheld (put d (set_of line) k None) line gone_way; others = λ other n. λ m. find (λ j. other_way other n j m) every_way; lru = refl }
 
   pub drop_forgets : DropForgetsOneLine d (dropped d line) line
   drop_forgets = by_answer (found d line) refl
     where
       by_answer : (o : Option WayNumber) → found d line ≡ o → DropForgetsOneLine d (dropped_of d line o) line
-      by_answer None e = record { gone = e; others = λ other n. refl }
+      by_answer None e = record { gone = e; others = λ other n. refl; lru = refl }
       by_answer (Some k) e = put_forgets k (held d line k e)
 
 -- ---- the law of a change

@@ -6,3 +6,4 @@ pub mod Changing
 pub mod Looking
 pub mod Sparing
 pub mod Telling
+pub mod Counting

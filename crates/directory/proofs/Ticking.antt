@@ -64,6 +64,14 @@ each_offset_once = record {
   within = within;
   reached = λ first p hf hp. (offset_at first p, within first p hf hp, undone first p hf hp);
   once = λ first j k hf hj hk e. sym (undone first j hf hj) ∙ ap (λ (x : ℕ). offset_at first x) e ∙ undone first k hf hk;
+  from_0 = refl;
+  from_1 = refl;
+  from_2 = refl;
+  from_3 = refl;
+  from_4 = refl;
+  from_5 = refl;
+  from_6 = refl;
+  from_7 = refl;
 }
 
 -- k steps tick k offsets

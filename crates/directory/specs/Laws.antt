@@ -1,10 +1,11 @@
 -- What holds of the tables whatever was done to them.
-use Rattle.std.specs.Prelude.{◌≡◌, ℕ, zero, suc, ◌+◌, ◌^◌, ◌<◌, ◌≤◌, true, false, ◌≢◌, List, [], ◌∷◌, find, is_some, Some, None, ◌==◌, nat_lt, count_ones}
+use Rattle.std.specs.Prelude.{◌≡◌, ℕ, zero, suc, ◌+◌, ◌^◌, ◌<◌, ◌≤◌, true, false, cond, ◌≢◌, List, [], ◌∷◌, map, find, is_some, Some, None, Option, ◌==◌, nat_lt, count_ones}
 use Rattle.directory.specs.declared.lru.LruBits.{LruBits}
 use Rattle.directory.specs.declared.lru.WayNumber.{WayNumber}
+use Rattle.directory.specs.declared.sets.Way.{Way}
 use Rattle.directory.specs.declared.fills.Fill.{Fill}
 use Rattle.directory.specs.Touch.{index_of, same_way, touched_bits, victim_of}
-use Rattle.directory.specs.Dirs.{Dir, set_of, holds, found, twins}
+use Rattle.directory.specs.Dirs.{Dir, set_of, emptied, put, holds, found, twins, valid_ways}
 use Rattle.directory.specs.Ticks.{ticked, tick, offset_at, next_word, fetched_word}
 
 -- The way just touched is never the next victim.
@@ -52,25 +53,49 @@ pub record OnlyBitsOfOneSet (before after : Dir) (i : ℕ) : Type 0 where
   pub others : (j : ℕ) → j ≢ i → after.lru j ≡ before.lru j
 
 -- A line just installed is found in its way, which is touched, and every other line that was found and not replaced is found where it was.
+-- The one replaced is found no more, and no other line has come.
 pub record InstallKeepsOtherLines (before after : Dir) (line : ℕ) (k : WayNumber) : Type 0 where
   pub new : found after line ≡ Some k
   pub touch : WayIsTouched before after line k
   pub others : (other : ℕ) (j : WayNumber) → found before other ≡ Some j → (set_of other ≡ set_of line → j ≢ k) → found after other ≡ Some j
+  pub displaced : (other : ℕ) → other ≢ line → set_of other ≡ set_of line → found before other ≡ Some k → found after other ≡ None
+  pub no_more : (other : ℕ) → other ≢ line → found before other ≡ None → found after other ≡ None
 
--- A line just dropped is not found, and every other line is found where it was.
+-- A line just dropped is not found, and every other line is found where it was; the LRU bits stay.
 pub record DropForgetsOneLine (before after : Dir) (line : ℕ) : Type 0 where
   pub gone : found after line ≡ None
   pub others : (other : ℕ) → other ≢ line → found after other ≡ found before other
+  pub lru : after.lru ≡ before.lru
 
 -- A changed word moves no line.
 abbrev pub ChangeMovesNoLine : Dir → Dir → Type 0
 ChangeMovesNoLine before after = (line : ℕ) → found after line ≡ found before line
 
--- The eight steps of a fill visit each offset of the line, and none twice, whatever the first.
+-- How many valid ways something that stands in a way is.
+abbrev pub as_one : Option Way → ℕ
+as_one o = cond (is_some o) 1 0
+
+-- An empty directory has no valid way, and what comes into a way is counted in the place of what was there.
+pub record EachValidWayCounts : Type 0 where
+  pub none : valid_ways emptied ≡ 0
+  pub one : (d : Dir) (i : ℕ) (k : WayNumber) (w : Option Way) → i < 256 → valid_ways (put d i k w) + as_one (d.way i k) ≡ valid_ways d + as_one w
+
+abbrev pub eight : List ℕ
+eight = 0 ∷ 1 ∷ 2 ∷ 3 ∷ 4 ∷ 5 ∷ 6 ∷ 7 ∷ []
+
+-- The eight steps of a fill visit each offset of the line, and none twice, whatever the first; and in this order.
 pub record FillFetchesEachWordOnce : Type 0 where
   pub within : (first step : ℕ) → first < 8 → step < 8 → offset_at first step < 8
   pub reached : (first offset : ℕ) → first < 8 → offset < 8 → (step : ℕ) × (step < 8) × (offset_at first step ≡ offset)
   pub once : (first j k : ℕ) → first < 8 → j < 8 → k < 8 → offset_at first j ≡ offset_at first k → j ≡ k
+  pub from_0 : map (offset_at 0) eight ≡ 0 ∷ 1 ∷ 2 ∷ 3 ∷ 4 ∷ 5 ∷ 6 ∷ 7 ∷ []
+  pub from_1 : map (offset_at 1) eight ≡ 1 ∷ 0 ∷ 3 ∷ 2 ∷ 5 ∷ 4 ∷ 7 ∷ 6 ∷ []
+  pub from_2 : map (offset_at 2) eight ≡ 2 ∷ 3 ∷ 0 ∷ 1 ∷ 6 ∷ 7 ∷ 4 ∷ 5 ∷ []
+  pub from_3 : map (offset_at 3) eight ≡ 3 ∷ 2 ∷ 1 ∷ 0 ∷ 7 ∷ 6 ∷ 5 ∷ 4 ∷ []
+  pub from_4 : map (offset_at 4) eight ≡ 4 ∷ 5 ∷ 6 ∷ 7 ∷ 0 ∷ 1 ∷ 2 ∷ 3 ∷ []
+  pub from_5 : map (offset_at 5) eight ≡ 5 ∷ 4 ∷ 7 ∷ 6 ∷ 1 ∷ 0 ∷ 3 ∷ 2 ∷ []
+  pub from_6 : map (offset_at 6) eight ≡ 6 ∷ 7 ∷ 4 ∷ 5 ∷ 2 ∷ 3 ∷ 0 ∷ 1 ∷ []
+  pub from_7 : map (offset_at 7) eight ≡ 7 ∷ 6 ∷ 5 ∷ 4 ∷ 3 ∷ 2 ∷ 1 ∷ 0 ∷ []
 
 -- Ticking a new offset adds one.
 abbrev pub NewTickAddsOne : Type 0

@@ -22,7 +22,7 @@ use Rattle.cache_tables.proofs.Reading.{begun_at, begin_keeps}
 use Rattle.cache_tables.proofs.Changing.{found_only}
 use Rattle.cache_tables.proofs.Staying.{read_hit, read_missed}
 use Rattle.cache_tables.proofs.Lawful.{finishes}
-use Rattle.directory_walk.proofs.Counting.{one_if, put_count, none_valid}
+use Rattle.directory.proofs.Counting.{one_if, put_count, none_valid}
 use Rattle.directory_walk.specs.Finds.{filled_at, filled, all_filled, CanBeKept, NoneDisplaces, puts, displaces, tally, Among, TheFilledLinesStand}
 
 ones_zero : ones 0 ≡ 0

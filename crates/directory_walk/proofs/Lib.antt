@@ -1,4 +1,3 @@
-pub mod Counting
 pub mod Filling
 pub mod Finding
 pub mod Telling

@@ -5,7 +5,7 @@ ghost use Rattle.port.specs.Memory.{line_of, offset_of};
 ghost use Rattle.directory.specs.Touch.{victim_of};
 ghost use Rattle.directory.specs.Dirs.{found, set_of, valid_ways};
 ghost use Rattle.directory.specs.View.{view, inspected, TellsWhatStands};
-ghost use Rattle.directory.specs.Laws.{OneWayHoldsALine};
+ghost use Rattle.directory.specs.Laws.{OneWayHoldsALine, EachValidWayCounts};
 
 use super::{Directory, SETS, set_of, tag_of};
 use crate::lru::{LruBits, WayNumber};
@@ -72,9 +72,11 @@ impl Directory {
     }
 
     /// How many ways are valid.
+    #[tactic(auto, using(crate::proofs::Counting::each_valid_way_counts))]
     pub fn valid_ways(&self) -> u32
         ensures value { result ≡ valid_ways (view self.now) }
         ensures few { result ≤ 1024 }
+        ensures law { EachValidWayCounts }
     {
         self.sets.iter().map(|record| record.valid_ways()).sum()
     }

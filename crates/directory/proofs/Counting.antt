@@ -6,6 +6,7 @@ use Rattle.directory.specs.declared.lru.WayNumber.TheVariants.{Zero, One, Two, T
 use Rattle.directory.specs.declared.sets.Way.{Way}
 use Rattle.directory.specs.Touch.{index_of, every_way}
 use Rattle.directory.specs.Dirs.{Dir, emptied, put, sum_below, valid_in, valid_ways}
+use Rattle.directory.specs.Laws.{EachValidWayCounts}
 use Rattle.directory.proofs.Apart.{put_here, put_other_set, put_other_way}
 
 abbrev pub one_if : Bool → ℕ
@@ -76,3 +77,6 @@ sum_none (suc n) = let rest = sum_none n in omega (arith, rest)
 
 pub none_valid : valid_ways emptied ≡ 0
 none_valid = sum_none 256
+
+pub each_valid_way_counts : EachValidWayCounts
+each_valid_way_counts = record { none = none_valid; one = λ d i k w h. put_count d i w k h }
