@@ -7,22 +7,22 @@ use Rattle.port.specs.Steps.{reads}
 use Rattle.directory.specs.declared.lru.WayNumber.{WayNumber}
 use Rattle.directory.specs.declared.fills.Fill.{Fill}
 use Rattle.directory.specs.Touch.{victim_of}
-use Rattle.directory.specs.Dirs.{Dir, set_of, touched, found, installed, dropped_of}
+use Rattle.directory.specs.Dirs.{Dir, set_of, touched, found, installed}
 use Rattle.port.specs.Memory.{line_of}
 use Rattle.directory.specs.Ticks.{next_word, complete, with_word}
 use Rattle.directory.specs.Laws.{InstallKeepsOtherLines}
 use Rattle.directory.proofs.Apart.{install_keeps, drop_forgets}
 use Rattle.directory.proofs.Sparing.{touch_spares}
 use Rattle.cache_tables.specs.Showing.{Shown, reading, line_seen, whole}
-use Rattle.cache_tables.specs.Rules.{Model, turn, idle, stowed, fetched_of, finished_of, finished, finish_calls, finish_turn, lacking, buffered_of, hit, touched_of, touched_by, begun_fill, left_of, begun, read_after, read_turn, dropped, changed_way, changed_of, written, ready_turn}
+use Rattle.cache_tables.specs.Rules.{Model, turn, idle, stowed, fetched_of, finished_of, finished, finish_calls, finish_turn, lacking, buffered_of, hit, touched_of, touched_by, begun_fill, left_of, begun, read_after, read_turn, dropped, cleared, changed_way, changed_of, written}
 use Rattle.cache_tables.specs.Coherence.{Coherent}
-use Rattle.cache_tables.specs.Laws.{NamedAtTheMiss, SameLineAndWay, HolderIsSpared, LineIsGone, fetched_times, SettlingNeverShows, AnswersAreWhatIsSeen, LinesLandWhereNamed, UsedWaysAreSpared, MastersWritesAreForgotten, HitsOnlyTouch, MissesBeginFills, WritesLandOrOnlyTouch, AdvancesFetchOneWord}
+use Rattle.cache_tables.specs.Laws.{NamedAtTheMiss, GoesOn, NotFetched, HolderIsSpared, LineIsGone, AllIsForgotten, fetched_times, SettlingNeverShows, AnswersAreWhatIsSeen, LinesLandWhereNamed}
 use Rattle.cache_tables.proofs.Keeping.{fetch_keeps, fetch_finishes}
 use Rattle.cache_tables.proofs.Fetching.{shown_kept, fetch_falls}
 use Rattle.cache_tables.proofs.Reading.{buffered_sees, hit_sees, none_found}
 use Rattle.cache_tables.proofs.Changing.{left_some}
 use Rattle.cache_tables.proofs.Trying.{two_line_examples_hold}
-use Rattle.cache_tables.proofs.Staying.{buffered_leaves_all, held_only_touches, late_hits_touch, misses_ask_once, misses_else_nothing, misses_fill, same_lines, writes_only_touch, writes_land, advances_fetch_one, advances_else_nothing}
+use Rattle.cache_tables.proofs.Staying.{not_buffered, same_lines}
 
 named : (v : Shown) (d : Dir) (w : ℕ) (b : Fill) → (begun v d w).fill ≡ Some b → NamedAtTheMiss v d w b
 named v d w b = by_tests (v.readable w) (v.cacheable (line_of w)) refl
@@ -34,18 +34,23 @@ named v d w b = by_tests (v.readable w) (v.cacheable (line_of w)) refl
     by_tests true false ek e = absurd (cc)
     by_tests false k ek e = absurd (cc)
 
-goes_on : (v : Shown) (d : Dir) (f : Option Fill) (b c : Fill) → f ≡ Some b → (fetched_of v d f).fill ≡ Some c → SameLineAndWay b c
+goes_on : (v : Shown) (d : Dir) (f : Option Fill) (b c : Fill) → f ≡ Some b → (fetched_of v d f).fill ≡ Some c → GoesOn b c
 goes_on v d None b c is e = absurd (cc)
 goes_on v d (Some a) b c is e = by_read (v.readable (next_word a)) e
   where
-    by_full : (full : Bool) → (cond full (idle (installed d a.line a.way a.protect (with_word a (v.word (next_word a))).words)) (record { dir = d; fill = Some (with_word a (v.word (next_word a))) })).fill ≡ Some c → SameLineAndWay b c
+    by_full : (full : Bool) → (cond full (idle (installed d a.line a.way a.protect (with_word a (v.word (next_word a))).words)) (record { dir = d; fill = Some (with_word a (v.word (next_word a))) })).fill ≡ Some c → GoesOn b c
     by_full true e = absurd (cc)
     by_full false e =
         let same : c ≡ with_word a (v.word (next_word a)) = cc in
         let began : a ≡ b = cc in
-        record { line = ap (λ (x : Fill). x.line) same ∙ ap (λ (x : Fill). x.line) began; way = ap (λ (x : Fill). x.way) same ∙ ap (λ (x : Fill). x.way) began }
+        record {
+          line = ap (λ (x : Fill). x.line) same ∙ ap (λ (x : Fill). x.line) began;
+          first = ap (λ (x : Fill). x.first) same ∙ ap (λ (x : Fill). x.first) began;
+          way = ap (λ (x : Fill). x.way) same ∙ ap (λ (x : Fill). x.way) began;
+          protect = ap (λ (x : Fill). x.protect) same ∙ ap (λ (x : Fill). x.protect) began;
+        }
 
-    by_read : (r : Bool) → (cond r (stowed d (with_word a (v.word (next_word a)))) (idle d)).fill ≡ Some c → SameLineAndWay b c
+    by_read : (r : Bool) → (cond r (stowed d (with_word a (v.word (next_word a)))) (idle d)).fill ≡ Some c → GoesOn b c
     by_read true e = by_full (complete (with_word a (v.word (next_word a)))) e
     by_read false e = absurd (cc)
 
@@ -57,18 +62,17 @@ finishes v (suc n) d (Some b) c h =
     let next = fetched_of v d (Some b) in
     finishes v n next.dir next.fill (fetch_keeps v d (Some b) c) (omega (arith, fetch_falls v d b c)) ∙ fetch_finishes v d (Some b) c
 
-gone : (v : Shown) (t : Model) (line : ℕ) → Coherent v t → LineIsGone t (dropped t line) line
+pub gone : (v : Shown) (t : Model) (line : ℕ) → Coherent v t → LineIsGone t (dropped t line) line
 gone v t line c = record {
-  buffer = λ b e. (left_some line t.fill b e).1;
+  buffer = left_some line t.fill;
   goes_on = λ b e n. ap (left_of line) e ∙ cond-false (eqb b.line line) None (Some b) (ne_eqb b.line line n);
   way = (drop_forgets t.dir line c.apart).gone;
   others = (drop_forgets t.dir line c.apart).others;
-  lru = by_answer (found t.dir line);
+  lru = (drop_forgets t.dir line c.apart).lru;
 }
-  where
-    by_answer : (o : Option WayNumber) → (dropped_of t.dir line o).lru ≡ t.dir.lru
-    by_answer None = refl
-    by_answer (Some k) = refl
+
+pub all_gone : AllIsForgotten cleared
+all_gone = record { lines = λ line. refl; lru = λ i. refl; fill = refl }
 
 -- ---- the way named at the miss
 
@@ -139,15 +143,15 @@ module _ (v : Shown) (t : Model) (w : ℕ) where
   spares_early (Some x) = touch_spares_it t w (found t.dir (line_of w)) refl
   spares_early None = spares_late (hit (finished v t).dir w) refl
 
-  read_spares : buffered_of t.fill w ≡ None → HolderIsSpared (read_turn v t w).tables w
-  read_spares = by_buffer (buffered_of t.fill w)
+  pub read_spares : NotFetched t w → HolderIsSpared (read_turn v t w).tables w
+  read_spares n = by_buffer (buffered_of t.fill w) (not_buffered v t w n)
     where
       by_buffer : (o : Option ℕ) → o ≡ None → HolderIsSpared (option_map_or (λ _. turn t []) o (option_map_or (λ _. turn (touched_by t w) []) (hit t.dir w) (read_after v (finish_turn v t) w))).tables w
       by_buffer None e = spares_early (hit t.dir w)
       by_buffer (Some x) e = absurd (cc)
 
 -- A word that is changed in its way moves no line, and the way is touched.
-write_spares : (t : Model) (w : Store) → HolderIsSpared (written t w) w.word
+pub write_spares : (t : Model) (w : Store) → HolderIsSpared (written t w) w.word
 write_spares t w = by_answer (found t.dir (line_of w.word)) refl
   where
     by_answer : (o : Option WayNumber) → found t.dir (line_of w.word) ≡ o → HolderIsSpared (record { dir = changed_of t.dir w o; fill = t.fill }) w.word
@@ -173,26 +177,4 @@ lines_land_where_named = record {
   lands = λ v t b c is. record { word_by_word = lands v t.dir t.fill b c is; at_once = ends_there v t.dir t.fill b c is; torn = ends_torn v t.dir t.fill b is; ends = ends_idle v t.dir t.fill };
 }
 
-pub used_ways_are_spared : UsedWaysAreSpared
-used_ways_are_spared = record { reads = read_spares; writes = λ v t w r. write_spares (ready_turn v t (line_of w.word)).tables w }
-
-pub masters_writes_are_forgotten : MastersWritesAreForgotten
-masters_writes_are_forgotten = record {
-  snoops = λ v t w r. gone v t (line_of w);
-  outsides = λ v t w r. gone v t (line_of w.word);
-  flushes = record { lines = λ line. refl; lru = λ i. refl; fill = refl };
-}
-
-pub hits_only_touch : HitsOnlyTouch
-hits_only_touch = record { buffered = buffered_leaves_all; held = held_only_touches; late = late_hits_touch }
-
-pub misses_begin_fills : MissesBeginFills
-misses_begin_fills = record { asks = misses_ask_once; else_nothing = misses_else_nothing; fills = misses_fill }
-
-pub writes_land_or_only_touch : WritesLandOrOnlyTouch
-writes_land_or_only_touch = record { only_touch = writes_only_touch; land = λ v t w r b c. writes_land v t w r c b }
-
-pub advances_fetch_one_word : AdvancesFetchOneWord
-advances_fetch_one_word = record { one = λ v t. advances_fetch_one v t.dir t.fill; else_nothing = advances_else_nothing }
-
-pub ruleset promises = (settling_never_shows, answers_are_what_is_seen, lines_land_where_named, used_ways_are_spared, masters_writes_are_forgotten, hits_only_touch, misses_begin_fills, writes_land_or_only_touch, advances_fetch_one_word, two_line_examples_hold)
+pub ruleset promises = (settling_never_shows, answers_are_what_is_seen, lines_land_where_named, two_line_examples_hold)

@@ -1,8 +1,7 @@
 -- What each call makes of the tables, in the words of the laws.
-use Rattle.std.proofs.Common.{◌≡◌, ℕ, ◌<◌, Bool, true, false, cond, if◌then◌else◌, not, ◌&&◌, eqb, [], ◌∷◌, ◌++◌, Some, None, Option, Result, sym, refl, ap, ◌∙◌, subst, inl, inr, arith, ◌/◌, zero, suc, ◌≤◌, length, length-append}
+use Rattle.std.proofs.Common.{◌≡◌, ℕ, ◌<◌, Bool, true, false, cond, if◌then◌else◌, not, ◌&&◌, eqb, [], ◌∷◌, ◌++◌, Some, None, Ok, Option, sym, refl, ap, ◌∙◌, subst, inl, inr, arith, ◌/◌, zero, suc, ◌≤◌, length, length-append}
 use Rattle.std.specs.Option.{option_map_or}
 use Rattle.std.proofs.lemmas.Bool.{cond-true, cond-false, cases_eq, eq-eqb, ne_eqb, and_left, and_right, and_from, not_from_true}
-use Rattle.fault.specs.declared.Fault.{Fault}
 use Rattle.port.specs.declared.Store.{Store}
 use Rattle.port.specs.Steps.{advances, reads, writes}
 use Rattle.port.specs.Memory.{line_of}
@@ -19,7 +18,7 @@ use Rattle.directory.proofs.Ticking.{starts, store_adds}
 use Rattle.cache_tables.specs.Showing.{Shown, line_seen, whole, reading}
 use Rattle.cache_tables.specs.Rules.{Model, Turn, turn, idle, stowed, fetched_of, finished_of, finished, finish_calls, finish_turn, buffered_of, hit_of, hit, touched_of, touched_by, begun_fill, begun, read_after, read_turn, changed_word, changed_way, changed_of, written, fills_open, ready_turn, write_turn, advance_turn, fetches, lacking, fetch_calls, fetched}
 use Rattle.cache_tables.specs.Coherence.{Coherent}
-use Rattle.cache_tables.specs.Laws.{AsksForTheWord, ReadLeavesAll, ReadOnlyTouches, NothingAnswers, FillBegins, LateHitTouches, NoneOpen, WriteOnlyTouches, WriteLandsTheLine, OneWordComes}
+use Rattle.cache_tables.specs.Laws.{Fetched, NotFetched, AsksForTheWord, ReadLeavesAll, ReadOnlyTouches, NothingAnswers, FillBegins, LateHitTouches, HitTouches, MissFills, NoneOpen, WriteOnlyTouches, WriteLandsTheLine, WriteLandsOrTouches, GoesOn, OneWordComes, AdvanceFetchesOne}
 use Rattle.cache_tables.proofs.Keeping.{given, abandon, install_fill}
 use Rattle.cache_tables.proofs.Reading.{hit_sees, none_found, nothing_fetched, starts_there, begun_at}
 use Rattle.cache_tables.proofs.Changing.{overwritten, write_keeps}
@@ -53,6 +52,10 @@ hit_some d w k e = by_answer (hit d w) refl
 
 hit_none : (d : Dir) (w : ℕ) → found d (line_of w) ≡ None → hit d w ≡ None
 hit_none d w e = ap (hit_of d w) e
+
+none_buffered : (f : Option Fill) (w : ℕ) → ((b : Fill) → f ≡ Some b → fetched_word b w ≡ None) → buffered_of f w ≡ None
+none_buffered None w h = refl
+none_buffered (Some b) w h = h b refl
 
 module _ (v : Shown) (t : Model) (w : ℕ) where
   abbrev after_buffer : Turn
@@ -96,12 +99,17 @@ module _ (v : Shown) (t : Model) (w : ℕ) where
       by_fill None = refl
       by_fill (Some b) = refl
 
-  pub buffered_leaves_all : (x : ℕ) → buffered_of t.fill w ≡ Some x → ReadLeavesAll v t w
-  buffered_leaves_all x e = record { tables = ap (λ (u : Turn). u.tables) (read_buffered x e); calls = ap (λ (u : Turn). u.calls) (read_buffered x e) }
+  pub not_buffered : NotFetched t w → buffered_of t.fill w ≡ None
+  not_buffered = none_buffered t.fill w
 
-  pub held_only_touches : (k : WayNumber) → buffered_of t.fill w ≡ None → found t.dir (line_of w) ≡ Some k → ReadOnlyTouches v t w k
+  buffered_leaves_all : Fetched t w → ReadLeavesAll t (read_turn v t w)
+  buffered_leaves_all f =
+      let same = read_buffered f.1 (ap (λ (o : Option Fill). buffered_of o w) f.2 ∙ f.3) in
+      record { tables = ap (λ (u : Turn). u.tables) same; calls = ap (λ (u : Turn). u.calls) same }
+
+  held_only_touches : (k : WayNumber) → NotFetched t w → found t.dir (line_of w) ≡ Some k → ReadOnlyTouches t w k (read_turn v t w)
   held_only_touches k b e =
-      let same = read_hit b k e in
+      let same = read_hit (not_buffered b) k e in
       let F : Turn → Type 0 = λ u. WayIsTouched t.dir u.tables.dir (line_of w) k in
       record {
         touch = subst F (sym same) (touch_touches t.dir t.dir (line_of w) k refl);
@@ -110,9 +118,9 @@ module _ (v : Shown) (t : Model) (w : ℕ) where
         calls = ap (λ (u : Turn). u.calls) same;
       }
 
-  pub late_hits_touch : (k : WayNumber) → buffered_of t.fill w ≡ None → found t.dir (line_of w) ≡ None → found (finished v t).dir (line_of w) ≡ Some k → LateHitTouches v t w k
+  late_hits_touch : (k : WayNumber) → NotFetched t w → found t.dir (line_of w) ≡ None → found (finished v t).dir (line_of w) ≡ Some k → LateHitTouches v t w k (read_turn v t w)
   late_hits_touch k b n e =
-      let same = read_late b n k e in
+      let same = read_late (not_buffered b) n k e in
       let F : Turn → Type 0 = λ u. WayIsTouched (finished v t).dir u.tables.dir (line_of w) k in
       record {
         touch = subst F (sym same) (touch_touches (finished v t).dir (finished v t).dir (line_of w) k refl);
@@ -121,12 +129,18 @@ module _ (v : Shown) (t : Model) (w : ℕ) where
         few = let n = ap (λ (u : Turn). length u.calls) same in let few = few_calls v t in omega (arith, n, few);
       }
 
-  pub misses_ask_once : NothingAnswers v t w → AsksForTheWord v t w
-  misses_ask_once n = record { first = finish_calls v t; few = few_calls v t; calls = ap (λ (u : Turn). u.calls) (read_missed n.buffer n.way n.late) }
+  pub hit_touches : HitTouches v t w (read_turn v t w)
+  hit_touches = record { buffered = buffered_leaves_all; held = held_only_touches; late = late_hits_touch }
 
-  pub misses_else_nothing : NothingAnswers v t w → (v.readable w ≡ true → v.cacheable (line_of w) ≡ false) → (read_turn v t w).tables ≡ finished v t
+  all_missed : NothingAnswers v t w → read_turn v t w ≡ turn (begun v (finished v t).dir w) (finish_calls v t ++ (reads w (reading v w) ∷ []))
+  all_missed n = read_missed (not_buffered n.buffer) n.way n.late
+
+  misses_ask_once : NothingAnswers v t w → AsksForTheWord v t w (read_turn v t w)
+  misses_ask_once n = record { first = finish_calls v t; few = few_calls v t; calls = ap (λ (u : Turn). u.calls) (all_missed n) }
+
+  misses_else_nothing : NothingAnswers v t w → (v.readable w ≡ true → v.cacheable (line_of w) ≡ false) → (read_turn v t w).tables ≡ finished v t
   misses_else_nothing n barred =
-      ap (λ (u : Turn). u.tables) (read_missed n.buffer n.way n.late)
+      ap (λ (u : Turn). u.tables) (all_missed n)
       ∙ begun_at v (finished v t).dir w (v.readable w) (v.cacheable (line_of w)) refl refl
       ∙ cond-false (v.readable w && v.cacheable (line_of w)) _ _ (never (v.readable w) (v.cacheable (line_of w)) barred)
       ∙ sym finish_idle
@@ -135,13 +149,13 @@ module _ (v : Shown) (t : Model) (w : ℕ) where
       never true k h = h refl
       never false k h = refl
 
-  pub misses_fill : Coherent v t → NothingAnswers v t w → w < v.words → v.readable w ≡ true → v.cacheable (line_of w) ≡ true → FillBegins v t w
-  misses_fill c n inside r k =
+  misses_fill : Coherent v t → w < v.words → NothingAnswers v t w → v.readable w ≡ true → v.cacheable (line_of w) ≡ true → FillBegins v t w (read_turn v t w)
+  misses_fill c inside n r k =
       let d = (finished v t).dir in
       let p = v.protected (line_of w) in
       let m = victim_of (d.lru (set_of (line_of w))) in
       let s = starting w m p in
-      let same = ap (λ (u : Turn). u.tables) (read_missed n.buffer n.way n.late) ∙ begun_at v d w true true r k in
+      let same = ap (λ (u : Turn). u.tables) (all_missed n) ∙ begun_at v d w true true r k in
       let adds = store_adds s (starts w m p (omega (arith, inside, c.few))) (v.word w) in
       let at = starts_there w m p in
       record {
@@ -155,6 +169,9 @@ module _ (v : Shown) (t : Model) (w : ℕ) where
         way = refl;
         lines = ap (λ (u : Model). u.dir) same;
       }
+
+  pub miss_fills : Coherent v t → w < v.words → MissFills v t w (read_turn v t w)
+  miss_fills c inside = record { asks = misses_ask_once; else_nothing = misses_else_nothing; fills = misses_fill c inside }
 
 -- ---- a fill is finished
 
@@ -202,7 +219,10 @@ none_open v t line c barred = by_fill t.fill refl
           | inl y ↦ and_right (eqb b.line line) (not b.protect) (not_from_true b.protect ((c.fill b e).shut ∙ ap (λ (l : ℕ). v.protected l) y ∙ barred b e y))
         ]
 
-module _ (v : Shown) (t : Model) (w : Store) (r : Result (Unit {0}) Fault) (c : Coherent v t) where
+module _ (v : Shown) (t : Model) (w : Store) (c : Coherent v t) where
+  abbrev done : Turn
+  done = write_turn v t w (Ok tt)
+
   abbrev line : ℕ
   line = line_of w.word
 
@@ -210,20 +230,20 @@ module _ (v : Shown) (t : Model) (w : Store) (r : Result (Unit {0}) Fault) (c : 
     ready : ready_turn v t line ≡ turn t []
     ready = cond-false (fills_open t.fill line) (finish_turn v t) (turn t []) (none_open v t line c barred)
 
-    after : (write_turn v t w r).tables ≡ written t w
+    after : done.tables ≡ written t w
     after = ap (λ (u : Turn). written u.tables w) ready
 
-    pub writes_only_touch : WriteOnlyTouches v t w r
+    writes_only_touch : WriteOnlyTouches t w done
     writes_only_touch = record {
       fill = ap (λ (m : Model). m.fill) after;
       lines = λ l. ap (λ (m : Model). found m.dir l) after ∙ moves_none t.dir w (found t.dir line) l;
       touch = λ k e.
           let F : Dir → Type 0 = λ d. WayIsTouched t.dir d line k in
           let new = changed_way t.dir w k (t.dir.way (set_of line) k) in
-          let same : (write_turn v t w r).tables.dir ≡ touched new (set_of line) k = ap (λ (m : Model). m.dir) after ∙ ap (changed_of t.dir w) e in
+          let same : done.tables.dir ≡ touched new (set_of line) k = ap (λ (m : Model). m.dir) after ∙ ap (changed_of t.dir w) e in
           subst F (sym same) (touch_touches t.dir new line k (same_lru t.dir w k (t.dir.way (set_of line) k)));
       misses = λ e. after ∙ ap (λ (o : Option WayNumber). record { dir = changed_of t.dir w o; fill = t.fill }) e;
-      calls = ap (λ (u : Turn). u.calls ++ (writes w r ∷ [])) ready;
+      calls = ap (λ (u : Turn). u.calls ++ (writes w (Ok tt) ∷ [])) ready;
     }
 
   module _ (b : Fill) (is : t.fill ≡ Some b) (at : b.line ≡ line) (o : v.protected b.line ≡ false) where
@@ -232,7 +252,7 @@ module _ (v : Shown) (t : Model) (w : Store) (r : Result (Unit {0}) Fault) (c : 
         ap (λ (f : Option Fill). fills_open f line) is
         ∙ and_from (eqb b.line line) (not b.protect) (eq-eqb b.line line at) (ap not ((c.fill b is).shut ∙ o))
 
-    ends : (write_turn v t w r).tables ≡ written (finished v t) w
+    ends : done.tables ≡ written (finished v t) w
     ends = ap (λ (u : Turn). written u.tables w) (cond-true (fills_open t.fill line) (finish_turn v t) (turn t []) is_open)
 
     done_with : finished v t ≡ finished_of v t.dir (Some b)
@@ -242,55 +262,66 @@ module _ (v : Shown) (t : Model) (w : Store) (r : Result (Unit {0}) Fault) (c : 
       abbrev landed : Dir
       landed = installed t.dir b.line b.way b.protect (line_seen v b.line)
 
-      has_landed : (write_turn v t w r).tables ≡ written (idle landed) w
+      has_landed : done.tables ≡ written (idle landed) w
       has_landed =
           ends ∙ ap (λ (m : Model). written m w) done_with
           ∙ ap (λ (x : Bool). written (idle (cond x landed t.dir)) w) all
 
-      lands_there : found landed b.line ≡ Some b.way
-      lands_there = (install_keeps t.dir b.line b.way b.protect (line_seen v b.line) c.apart (c.fill b is).absent).new
+      keeps : InstallKeepsOtherLines t.dir landed b.line b.way
+      keeps = install_keeps t.dir b.line b.way b.protect (line_seen v b.line) c.apart (c.fill b is).absent
 
       found_there : found landed line ≡ Some b.way
-      found_there = ap (found landed) (sym at) ∙ lands_there
+      found_there = ap (found landed) (sym at) ∙ keeps.new
 
-      stands : found (write_turn v t w r).tables.dir b.line ≡ Some b.way
-      stands = ap (λ (m : Model). found m.dir b.line) has_landed ∙ moves_none landed w (found landed line) b.line ∙ lands_there
+      same_found : (l : ℕ) → found done.tables.dir l ≡ found landed l
+      same_found l = ap (λ (m : Model). found m.dir l) has_landed ∙ moves_none landed w (found landed line) l
 
       -- what the way answers is what is seen with the write in it
-      answers : (a : ℕ) → line_of a ≡ b.line → hit (write_turn v t w r).tables.dir a ≡ Some ((overwritten v w).word a)
+      answers : (a : ℕ) → line_of a ≡ b.line → hit done.tables.dir a ≡ Some ((overwritten v w).word a)
       answers a e =
-          let u = (write_turn v t w r).tables in
-          let some = hit_some u.dir a b.way (ap (found u.dir) e ∙ stands) in
+          let u = done.tables in
+          let some = hit_some u.dir a b.way (ap (found u.dir) e ∙ same_found b.line ∙ keeps.new) in
           let kept : Coherent (overwritten v w) u =
           subst (λ (m : Model). Coherent (overwritten v w) m) (sym ends)
           (write_keeps v w (finished v t) (finish_keeps v t.dir t.fill c) (ap (λ (m : Model). fills_open m.fill line) (finish_idle v t w.word))) in
           some.1 ∙ ap Some (hit_sees (overwritten v w) u a some.0 kept (sym some.1)).1
 
-      is_touched : WayIsTouched t.dir (write_turn v t w r).tables.dir b.line b.way
+      is_touched : WayIsTouched t.dir done.tables.dir b.line b.way
       is_touched =
           let new = changed_way landed w b.way (landed.way (set_of line) b.way) in
           let F : Dir → Type 0 = λ d. WayIsTouched t.dir d b.line b.way in
-          let same : (write_turn v t w r).tables.dir ≡ touched new (set_of b.line) b.way =
+          let same : done.tables.dir ≡ touched new (set_of b.line) b.way =
           ap (λ (m : Model). m.dir) has_landed ∙ ap (changed_of landed w) found_there ∙ ap (λ (l : ℕ). touched new (set_of l) b.way) (sym at) in
           subst F (sym same) (touch_again t.dir new b.line b.way (same_lru landed w b.way (landed.way (set_of line) b.way)))
 
-    pub writes_land : WriteLandsTheLine v t w r b
+      landed_alone : InstallKeepsOtherLines t.dir done.tables.dir b.line b.way
+      landed_alone = record {
+        new = same_found b.line ∙ keeps.new;
+        touch = is_touched;
+        others = λ l j f n. same_found l ∙ keeps.others l j f n;
+        displaced = λ l n e f. same_found l ∙ keeps.displaced l n e f;
+        no_more = λ l n f. same_found l ∙ keeps.no_more l n f;
+      }
+
+    writes_land : WriteLandsTheLine v t w b done
     writes_land = record {
       ends = ap (λ (m : Model). m.fill) ends ∙ ap (λ (m : Model). m.fill) (finish_idle v t w.word);
-      way = stands;
+      lands = landed_alone;
       here = λ all.
           answers all w.word (sym at)
           ∙ ap Some (cond-true (eqb w.word w.word) _ _ (eq-eqb w.word w.word refl) ∙ cond-false (v.protected (w.word / 8)) _ _ (ap (λ (l : ℕ). v.protected l) (sym at) ∙ o));
       rest = λ all a e n. answers all a e ∙ ap Some (cond-false (eqb a w.word) _ _ (ne_eqb a w.word n));
-      touch = is_touched;
       torn = λ none.
           ends ∙ ap (λ (m : Model). written m w) done_with
           ∙ ap (λ (x : Bool). written (idle (cond x (installed t.dir b.line b.way b.protect (line_seen v b.line)) t.dir)) w) none
           ∙ ap (λ (k : Option WayNumber). idle (changed_of t.dir w k)) (ap (found t.dir) (sym at) ∙ (c.fill b is).absent);
       first = finish_calls v t;
       few = few_calls v t;
-      calls = ap (λ (u : Turn). u.calls ++ (writes w r ∷ [])) (cond-true (fills_open t.fill line) (finish_turn v t) (turn t []) is_open);
+      calls = ap (λ (u : Turn). u.calls ++ (writes w (Ok tt) ∷ [])) (cond-true (fills_open t.fill line) (finish_turn v t) (turn t []) is_open);
     }
+
+  pub write_lands_or_touches : WriteLandsOrTouches v t w done
+  write_lands_or_touches = record { only_touch = writes_only_touch; land = writes_land }
 
 -- ---- an advance
 
@@ -298,15 +329,18 @@ module _ (v : Shown) (d : Dir) (b : Fill) (c : Coherent v (record { dir = d; fil
   abbrev next : Fill
   next = with_word b (v.word (next_word b))
 
-  fetch_more : (e : Fill) → (fetched_of v d (Some b)).fill ≡ Some e → StoreAddsItsWord b e (v.word (next_word b)) × ((fetched_of v d (Some b)).dir ≡ d)
+  same_fill : GoesOn b next
+  same_fill = record { line = refl; first = refl; way = refl; protect = refl }
+
+  fetch_more : (e : Fill) → (fetched_of v d (Some b)).fill ≡ Some e → StoreAddsItsWord b e (v.word (next_word b)) × GoesOn b e × ((fetched_of v d (Some b)).dir ≡ d)
   fetch_more e = by_read (v.readable (next_word b))
     where
       by_full : (full : Bool) → (cond full (idle (installed d b.line b.way b.protect next.words)) (record { dir = d; fill = Some next })).fill ≡ Some e →
-          StoreAddsItsWord b e (v.word (next_word b)) × ((cond full (idle (installed d b.line b.way b.protect next.words)) (record { dir = d; fill = Some next })).dir ≡ d)
+          StoreAddsItsWord b e (v.word (next_word b)) × GoesOn b e × ((cond full (idle (installed d b.line b.way b.protect next.words)) (record { dir = d; fill = Some next })).dir ≡ d)
       by_full true h = absurd (cc)
-      by_full false h = (given (λ (x : Fill). StoreAddsItsWord b x (v.word (next_word b))) next e h (store_adds b (c.fill b refl).under (v.word (next_word b))), refl)
+      by_full false h = (given (λ (x : Fill). StoreAddsItsWord b x (v.word (next_word b))) next e h (store_adds b (c.fill b refl).under (v.word (next_word b))), given (GoesOn b) next e h same_fill, refl)
 
-      by_read : (t : Bool) → (cond t (stowed d next) (idle d)).fill ≡ Some e → StoreAddsItsWord b e (v.word (next_word b)) × ((cond t (stowed d next) (idle d)).dir ≡ d)
+      by_read : (t : Bool) → (cond t (stowed d next) (idle d)).fill ≡ Some e → StoreAddsItsWord b e (v.word (next_word b)) × GoesOn b e × ((cond t (stowed d next) (idle d)).dir ≡ d)
       by_read true h = by_full (complete next) h
       by_read false h = absurd (cc)
 
@@ -322,7 +356,7 @@ module _ (v : Shown) (d : Dir) (b : Fill) (c : Coherent v (record { dir = d; fil
       by_read true q h = by_full (complete next) h
       by_read false q h = absurd (cc)
 
-  one_word_comes : OneWordComes v (record { dir = d; fill = Some b }) b
+  one_word_comes : OneWordComes v (record { dir = d; fill = Some b }) b (advance_turn v (record { dir = d; fill = Some b }))
   one_word_comes = record {
     calls = refl;
     more = fetch_more;
@@ -332,12 +366,17 @@ module _ (v : Shown) (d : Dir) (b : Fill) (c : Coherent v (record { dir = d; fil
         (ap (λ (m : Model). m.fill) same, ap (λ (m : Model). m.dir) same);
   }
 
-pub advances_fetch_one : (v : Shown) (d : Dir) (f : Option Fill) (b : Fill) → Coherent v (record { dir = d; fill = f }) → f ≡ Some b → OneWordComes v (record { dir = d; fill = f }) b
+advances_fetch_one : (v : Shown) (d : Dir) (f : Option Fill) (b : Fill) → Coherent v (record { dir = d; fill = f }) → f ≡ Some b
+    → OneWordComes v (record { dir = d; fill = f }) b (advance_turn v (record { dir = d; fill = f }))
 advances_fetch_one v d None b c e = absurd (cc)
-advances_fetch_one v d (Some a) b c e = given (λ (x : Fill). OneWordComes v (record { dir = d; fill = Some a }) x) a b e (one_word_comes v d a c)
+advances_fetch_one v d (Some a) b c e =
+    given (λ (x : Fill). OneWordComes v (record { dir = d; fill = Some a }) x (advance_turn v (record { dir = d; fill = Some a }))) a b e (one_word_comes v d a c)
 
-pub advances_else_nothing : (v : Shown) (t : Model) → t.fill ≡ None → ((advance_turn v t).tables ≡ t) × ((advance_turn v t).calls ≡ advances ∷ [])
+advances_else_nothing : (v : Shown) (t : Model) → t.fill ≡ None → ((advance_turn v t).tables ≡ t) × ((advance_turn v t).calls ≡ advances ∷ [])
 advances_else_nothing v t e = (
   ap (fetched_of v t.dir) e ∙ ap (λ (f : Option Fill). record { dir = t.dir; fill = f }) (sym e),
   ap (λ (f : Option Fill). fetch_calls v f ++ (advances ∷ [])) e,
 )
+
+pub advance_fetches_one : (v : Shown) (t : Model) → Coherent v t → AdvanceFetchesOne v t (advance_turn v t)
+advance_fetches_one v t c = record { one = λ b. advances_fetch_one v t.dir t.fill b c; else_nothing = advances_else_nothing v t }
