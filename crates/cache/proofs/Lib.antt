@@ -1,3 +1,4 @@
 pub mod Calling
 pub mod Passing
 pub mod Asking
+pub mod Promising

@@ -1,5 +1,5 @@
 -- What a cache means, and what its calls do: to its tables, and by which calls to the port below.
-use Rattle.std.specs.Prelude.{◌≡◌, ℕ, ◌≤◌, Err, Result}
+use Rattle.std.specs.Prelude.{◌≡◌, ℕ, ◌≤◌, Some, Ok, Err, Result}
 use Rattle.std.specs.Option.{ok_or}
 use Rattle.fault.specs.declared.Fault.{Fault}
 use Rattle.fault.specs.declared.Refusal.TheVariants.{PastEnd}
@@ -25,8 +25,9 @@ tables_of c = model c.tables
 abbrev pub inspect_answer : Dir → ℕ → ℕ → ℕ → Result WayState Fault
 inspect_answer d floor set way = ok_or (inspected d set way) (past_end set floor)
 
--- A set or a way that there is not is refused with 1, at the set, on the cache's floor.
-pub record UnknownWaysAreRefused (d : Dir) (floor : ℕ) : Type 0 where
+-- What the directory tells of a way is told of it, and a set or a way that there is not is refused with 1, at the set, on the cache's floor.
+pub record WaysAreToldOrRefused (d : Dir) (floor : ℕ) : Type 0 where
+  pub told : (set way : ℕ) (s : WayState) → inspected d set way ≡ Some s → inspect_answer d floor set way ≡ Ok s
   pub no_set : (set way : ℕ) → 256 ≤ set → inspect_answer d floor set way ≡ Err (record { refusal = PastEnd; place = set; floor = floor })
   pub no_way : (set way : ℕ) → 4 ≤ way → inspect_answer d floor set way ≡ Err (record { refusal = PastEnd; place = set; floor = floor })
 

@@ -96,25 +96,26 @@ impl<P: Port> Cache<P> {
     ghost use Rattle.port.specs.Memory.{floor_above};
     ghost use Rattle.directory.specs.Dirs.{valid_ways};
     ghost use Rattle.cache_tables.specs.Rules.{cleared};
-    ghost use Rattle.cache_tables.specs.Laws.{SettlingNeverShows, AnswersAreWhatIsSeen, LinesLandWhereNamed, UsedWaysAreSpared, MastersWritesAreForgotten, HitsOnlyTouch, MissesBeginFills, WritesLandOrOnlyTouch, AdvancesFetchOneWord};
+    ghost use Rattle.cache_tables.specs.Laws.{SettlingNeverShows, AnswersAreWhatIsSeen, LinesLandWhereNamed};
     ghost use Rattle.cache_tables.specs.Examples.{TwoLineExamplesHold};
     ghost use Rattle.cache.specs.Doing.{tables_of, inspect_answer};
+    ghost use Rattle.cache.specs.Promises.{UsedWaysAreSpared, MastersWritesAreForgotten, HitsOnlyTouch, MissesBeginFills, WritesLandOrOnlyTouch, AdvancesFetchOneWord};
     ghost use Rattle.cache.specs.Runs.{OnlyReadsAreKept};
 
     /// A cache over a port, with no valid way, no LRU bit set and no fill.
-    #[tactic(auto, using(cache_tables::proofs::Lawful::promises, crate::proofs::Passing::only_reads_are_kept))]
+    #[tactic(auto, using(cache_tables::proofs::Lawful::promises, crate::proofs::Promising::promises, crate::proofs::Passing::only_reads_are_kept))]
     pub fn new(below: P) -> Cache<P>
         ensures below { result.below ≡ below }
         ensures tables { tables_of result ≡ cleared }
         ensures unseen { SettlingNeverShows }
         ensures newest { AnswersAreWhatIsSeen }
         ensures lands { LinesLandWhereNamed }
-        ensures spares { UsedWaysAreSpared }
-        ensures forgets { MastersWritesAreForgotten }
-        ensures hits { HitsOnlyTouch }
-        ensures misses { MissesBeginFills }
-        ensures writes { WritesLandOrOnlyTouch }
-        ensures advances { AdvancesFetchOneWord }
+        ensures spares { UsedWaysAreSpared P.Port }
+        ensures forgets { MastersWritesAreForgotten P.Port }
+        ensures hits { HitsOnlyTouch P.Port }
+        ensures misses { MissesBeginFills P.Port }
+        ensures writes { WritesLandOrOnlyTouch P.Port }
+        ensures advances { AdvancesFetchOneWord P.Port }
         ensures examples { TwoLineExamplesHold }
         ensures run { OnlyReadsAreKept P.Port }
     {
