@@ -12,7 +12,10 @@ use Rattle.calls.specs.declared.call.Cargo.TheVariants.{Nothing, Word as OfWord,
 use Rattle.calls.specs.Calls.{cargo_of}
 use Rattle.port.specs.declared.Port.{Ghosts}
 use Rattle.port.specs.Memory.{Memory, State, floor_above, seen}
-use Rattle.port.specs.Meaning.{laned}
+use Rattle.std.specs.Result.{result_and}
+use Rattle.port.specs.declared.Store.{Store}
+use Rattle.port.specs.Meaning.{past_end, bad_lanes, unreadable, laned, write_answer}
+use Rattle.port.specs.Meaning.{told as told_of_port}
 use Rattle.book.specs.declared.answer.Mode.{Mode}
 use Rattle.book.specs.declared.answer.Mode.TheVariants.{Free, Locked, Granted}
 use Rattle.book.specs.declared.answer.Answer.{Answer}
@@ -21,7 +24,7 @@ use Rattle.book.specs.Tables.{Takers, every, unlocked, free, locked, granted, st
 use Rattle.book.specs.Book.{Book, refused, waiting_line, step, Admits, Allowed, reading, told_of, says, unless, told, answer}
 use Rattle.book.specs.Calling.{Makes, Reaches}
 use Rattle.book.specs.Runs.{Moment, moment, after, Follows, Ledger, joining_entries, leads_to, moved, mode_by}
-use Rattle.book.specs.Promise.{in_mode, turned_away, told_at, AnsweredIn, AllIn, AsksThePort, EachCallAsksThePort, settles_at}
+use Rattle.book.specs.Promise.{in_mode, turned_away, told_at, AnsweredIn, AllIn, AsksThePort, TellsWord, TellsDone, AnswersAsThePort, EachCallAsksThePort, settles_at}
 use Rattle.book.proofs.Records.{Tells, joined_is}
 use Rattle.book.proofs.Locks.{Held}
 
@@ -272,11 +275,63 @@ asked_is G Give p q h = h
 asked_is G (Snoop w) p q h = h
 asked_is G Flush p q h = h
 
+-- what is told of a word, by its two tests: is it there, and can it be read
+word_told : (there legible : Bool) (v floor : ℕ) (c : Call) (past torn : Fault) → fault_of floor c PastEnd ≡ past → fault_of floor c Unreadable ≡ torn
+    → TellsWord (result_and {T = Unit {0}} (cond there (Ok tt) (Err past)) (cond legible (Ok v) (Err torn))) (told floor c (unless (cond there None (Some PastEnd)) (cond legible (Ok (Word v)) (Err Unreadable))))
+word_told true true v floor c past torn p t = record { word = λ x e. let same : v ≡ x = cc in ap (λ (y : ℕ). Ok (Word y)) same; refused = λ fault e. absurd (cc) }
+word_told true false v floor c past torn p t = record { word = λ x e. absurd (cc); refused = λ fault e. let same : torn ≡ fault = cc in ap Err (t ∙ same) }
+word_told false legible v floor c past torn p t = record { word = λ x e. absurd (cc); refused = λ fault e. let same : past ≡ fault = cc in ap Err (p ∙ same) }
+
+-- and what becomes of a write, by its range and its lanes
+done_told : (there fit : Bool) (floor : ℕ) (c : Call) (past lanes : Fault) → fault_of floor c PastEnd ≡ past → fault_of floor c BadLanes ≡ lanes
+    → TellsDone (result_and {T = Unit {0}} (cond there (Ok tt) (Err past)) (cond fit (Ok tt) (Err lanes))) (told floor c (unless (or_else (cond there None (Some PastEnd)) (cond fit None (Some BadLanes))) (Ok Done)))
+done_told true true floor c past lanes p l = record { accepted = λ e. refl; refused = λ fault e. absurd (cc) }
+done_told true false floor c past lanes p l = record { accepted = λ e. absurd (cc); refused = λ fault e. let same : lanes ≡ fault = cc in ap Err (l ∙ same) }
+done_told false fit floor c past lanes p l = record { accepted = λ e. absurd (cc); refused = λ fault e. let same : past ≡ fault = cc in ap Err (p ∙ same) }
+
+snoop_told : (there : Bool) (w floor : ℕ) → TellsDone (cond there (Ok tt) (Err (past_end w floor))) (told floor (Snoop w) (unless (cond there None (Some PastEnd)) (Ok Done)))
+snoop_told true w floor = record { accepted = λ e. refl; refused = λ fault e. absurd (cc) }
+snoop_told false w floor = record { accepted = λ e. absurd (cc); refused = λ fault e. let same : past_end w floor ≡ fault = cc in ap Err same }
+
+module _ (s : State) where
+  by_word : (c : Call) (m : Memory) (w : ℕ) → place_in (cargo_of c) ≡ w
+      → TellsWord (told_of_port s.facts m w) (told s.facts.floor c (unless (in_range s.facts.words w) (reading m w)))
+  by_word c m w e =
+      word_told (ltb w s.facts.words) (m.readable w) (m.word w) s.facts.floor c (past_end w s.facts.floor) (unreadable w)
+      (ap (λ (p : ℕ). past_end p s.facts.floor) e) (ap unreadable e)
+
+  by_store : (c : Call) (x : Store) → place_in (cargo_of c) ≡ x.word
+      → TellsDone (write_answer s x) (told s.facts.floor c (unless (or_else (in_range s.facts.words x.word) (cond (laned x.lanes) None (Some BadLanes))) (Ok Done)))
+  by_store c x e =
+      done_told (ltb x.word s.facts.words) (laned x.lanes) s.facts.floor c (past_end x.word s.facts.floor) (bad_lanes x.word s.facts.floor)
+      (ap (λ (p : ℕ). past_end p s.facts.floor) e) (ap (λ (p : ℕ). bad_lanes p s.facts.floor) e)
+
+  answers_as : (c : Call) → AnswersAsThePort s c (told s.facts.floor c (unless (fits s.facts.words (cargo_of c)) (says s c)))
+  answers_as (Read w) = by_word (Read w) (seen s) w refl
+  answers_as (Post x) = by_store (Post x) x refl
+  answers_as (Unposted x) = by_store (Unposted x) x refl
+  answers_as Advance = refl
+  answers_as Lock = refl
+  answers_as (LockedRead w) = by_word (LockedRead w) s.settled w refl
+  answers_as (LockedWrite x) = by_store (LockedWrite x) x refl
+  answers_as Unlock = refl
+  answers_as Ask = refl
+  answers_as (MasterRead w) = by_word (MasterRead w) s.settled w refl
+  answers_as (MasterWrite x) = by_store (MasterWrite x) x refl
+  answers_as Give = refl
+  answers_as (Snoop w) = snoop_told (ltb w s.facts.words) w s.facts.floor
+  answers_as Flush = refl
+
 pub each_call_asks_the_port : {P : Type 0} (G : Ghosts P) → EachCallAsksThePort G
 each_call_asks_the_port G = record {
   taken = λ m n p q c r h t.
       let F : Option Refusal → Type 0 = λ o. Reaches o (Makes G c p q) (q ≡ p) in
       asked_is G c p q (subst F (sym (turned_is c m) ∙ t) h.made);
+  answered = λ m n p q c r h t.
+      let s = G.state p in
+      let by_port : r ≡ told s.facts.floor c (unless (fits s.facts.words (cargo_of c)) (says s c)) =
+      h.answered ∙ ap (λ (o : Option Refusal). told s.facts.floor c (unless (or_else o (fits s.facts.words (cargo_of c))) (says s c))) (sym (turned_is c m) ∙ t) in
+      subst (AnswersAsThePort s c) (sym by_port) (answers_as s c);
   turned = λ m n p q c r x h t.
       let F : Option Refusal → Type 0 = λ o. Reaches o (Makes G c p q) (q ≡ p) in
       subst F (sym (turned_is c m) ∙ t) h.made;

@@ -9,7 +9,7 @@ use Rattle.calls.specs.declared.call.Call.TheVariants.{Read, Write as Post, Unpo
 use Rattle.port.specs.Lanes.{Lane, byte, covers}
 use Rattle.port.specs.declared.Port.{Ghosts}
 use Rattle.port.specs.Memory.{State, floor_above, seen, applied, drained, line_of}
-use Rattle.port.specs.Meaning.{read_answer, write_answer, snoop_answer}
+use Rattle.port.specs.Meaning.{read_answer, settled_answer, write_answer, snoop_answer}
 use Rattle.port.specs.Steps.{reads, writes, advances, outsides, snoops, flushes, Chain, Drains, Through}
 use Rattle.book.specs.declared.answer.Mode.{Mode}
 use Rattle.book.specs.declared.answer.Mode.TheVariants.{Free, Locked, Granted}
@@ -147,9 +147,30 @@ AsksThePort G Give p q = q ≡ p
 AsksThePort G (Snoop w) p q = Chain G.does p (snoops w (snoop_answer (G.state p) w) ∷ []) q
 AsksThePort G Flush p q = Chain G.does p (flushes ∷ []) q
 
+-- What the port tells is answered: its word, or that it is done; and what it refuses comes up as it is.
+pub record TellsWord (port : Result ℕ Fault) (r : Result Answer Fault) : Type 0 where
+  pub word : (v : ℕ) → port ≡ Ok v → r ≡ Ok (Word v)
+  pub refused : (fault : Fault) → port ≡ Err fault → r ≡ Err fault
+
+pub record TellsDone (port : Result (Unit {0}) Fault) (r : Result Answer Fault) : Type 0 where
+  pub accepted : port ≡ Ok tt → r ≡ Ok Done
+  pub refused : (fault : Fault) → port ≡ Err fault → r ≡ Err fault
+
+abbrev pub AnswersAsThePort : State → Call → Result Answer Fault → Type 0
+AnswersAsThePort s (Read w) r = TellsWord (read_answer s w) r
+AnswersAsThePort s (Post x) r = TellsDone (write_answer s x) r
+AnswersAsThePort s (Unposted x) r = TellsDone (write_answer s x) r
+AnswersAsThePort s (LockedRead w) r = TellsWord (settled_answer s w) r
+AnswersAsThePort s (LockedWrite x) r = TellsDone (write_answer s x) r
+AnswersAsThePort s (MasterRead w) r = TellsWord (settled_answer s w) r
+AnswersAsThePort s (MasterWrite x) r = TellsDone (write_answer s x) r
+AnswersAsThePort s (Snoop w) r = TellsDone (snoop_answer s w) r
+AnswersAsThePort s other r = r ≡ Ok Done
+
 -- A call that the mode turns away asks for nothing.
 pub record EachCallAsksThePort {P : Type 0} (G : Ghosts P) : Type 0 where
   pub taken : (m n : Mode) (p q : P) (c : Call) (r : Result Answer Fault) → Called G m p c r n q → turned_away c m ≡ None → AsksThePort G c p q
+  pub answered : (m n : Mode) (p q : P) (c : Call) (r : Result Answer Fault) → Called G m p c r n q → turned_away c m ≡ None → AnswersAsThePort (G.state p) c r
   pub turned : (m n : Mode) (p q : P) (c : Call) (r : Result Answer Fault) (x : Refusal) → Called G m p c r n q → turned_away c m ≡ Some x → q ≡ p
 
 -- UNDER A LOCK, read off the calls and their answers
