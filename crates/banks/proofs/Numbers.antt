@@ -1,9 +1,12 @@
 -- What sizes and places come to in numbers.
-use Rattle.std.proofs.Common.{◌≡◌, ◌⊎◌, ℕ, ◌+◌, ◌*◌, ◌/◌, ◌%◌, ◌<◌, ◌≤◌, true, false, inl, inr, ap₂, Ok, Err, arith}
+use Rattle.std.proofs.Common.{◌≡◌, ◌⊎◌, ℕ, ◌+◌, ◌*◌, ◌/◌, ◌%◌, ◌<◌, ◌≤◌, true, false, length, inl, inr, refl, ap, ◌∙◌, ap₂, Ok, Err, arith}
 use Rattle.std.proofs.lemmas.Bool.{cond-true, cond-false}
 use Rattle.std.proofs.lemmas.Bool.Decides.{nat_tests}
 use Rattle.banks.specs.Sizes.{fit_lines, unfit, UnfitSizesHaveNoWords}
-use Rattle.banks.specs.Lines.{line_at, EachRecordIsALine}
+use Rattle.banks.specs.Sizes.{lines_of_bytes, words_of_lines}
+use Rattle.banks.specs.Lines.{line_at}
+use Rattle.banks.specs.Ram.{EachRecordIsALine}
+use Rattle.banks.specs.Eprom.{SixteenBytesAreALine}
 use Rattle.std.specs.Prelude.{slice_index, slice_index_or}
 
 fits : (lines : ℕ) → 1 ≤ lines → lines ≤ 1048576 → fit_lines lines ≡ true
@@ -31,4 +34,17 @@ each_record = record {
       let line : (k * 8 + offset) / 8 ≡ k = omega arith in
       let at : (k * 8 + offset) % 8 ≡ offset = omega arith in
       ap₂ (λ (l p : ℕ). slice_index_or (line_at lines l).readable p false) line at;
+  cacheable = λ lines k. refl;
+  protected = λ lines k. refl;
+  all = λ lines h k. (unfit_sizes.fit (length lines) h k).1;
+  lowest = λ lines. refl;
+}
+
+pub sixteen_bytes : SixteenBytesAreALine
+sixteen_bytes = record {
+  all = λ bytes lines e h k. ap (λ (n : ℕ). words_of_lines (lines_of_bytes n)) e ∙ ap words_of_lines (unfit_sizes.even lines) ∙ (unfit_sizes.fit lines h k).1;
+  cacheable = λ bytes k. refl;
+  protected = λ bytes k. refl;
+  readable = λ bytes a. refl;
+  lowest = λ bytes. refl;
 }

@@ -1,16 +1,11 @@
 -- An EPROM bank as a port: its bytes are its settled memory, all of it cacheable, protected and readable.
-use Rattle.std.specs.Prelude.{◌≡◌, ℕ, ◌+◌, ◌*◌, ◌/◌, ◌%◌, ◌^◌, ◌<◌, true, List, [], length, slice_index}
+use Rattle.std.specs.Prelude.{◌≡◌, ℕ, ◌+◌, ◌*◌, ◌/◌, ◌%◌, ◌^◌, ◌<◌, ◌≤◌, true, List, [], length, slice_index}
 use Rattle.port.specs.Memory.{State, Memory}
 use Rattle.banks.specs.Sizes.{words_of_lines, lines_of_bytes}
 
 -- The low byte of each word comes first.
 abbrev pub image_memory : List ℕ → Memory
 image_memory bytes = record { word = λ a. slice_index bytes (a * 2) + slice_index bytes (a * 2 + 1) * 2 ^ 8; readable = λ a. true }
-
--- A word's bytes, where they are bytes.
-pub record LowByteFirst : Type 0 where
-  pub low : (bytes : List ℕ) (a : ℕ) → slice_index bytes (a * 2) < 2 ^ 8 → (image_memory bytes).word a % 2 ^ 8 ≡ slice_index bytes (a * 2)
-  pub high : (bytes : List ℕ) (a : ℕ) → slice_index bytes (a * 2) < 2 ^ 8 → (image_memory bytes).word a / 2 ^ 8 ≡ slice_index bytes (a * 2 + 1)
 
 abbrev pub eprom_state : List ℕ → State
 eprom_state bytes = record {
@@ -19,3 +14,16 @@ eprom_state bytes = record {
   settled = image_memory bytes;
   waiting = [];
 }
+
+-- A word's bytes, where they are bytes.
+pub record LowByteFirst : Type 0 where
+  pub low : (bytes : List ℕ) (a : ℕ) → slice_index bytes (a * 2) < 2 ^ 8 → (eprom_state bytes).settled.word a % 2 ^ 8 ≡ slice_index bytes (a * 2)
+  pub high : (bytes : List ℕ) (a : ℕ) → slice_index bytes (a * 2) < 2 ^ 8 → (eprom_state bytes).settled.word a / 2 ^ 8 ≡ slice_index bytes (a * 2 + 1)
+
+-- Each sixteen bytes are a line, which may be cached, is protected, and can be read. All of them are there, on the lowest floor.
+pub record SixteenBytesAreALine : Type 0 where
+  pub all : (bytes : List ℕ) (lines : ℕ) → length bytes ≡ lines * 16 → 1 ≤ lines → lines ≤ 1048576 → (eprom_state bytes).facts.words ≡ lines * 8
+  pub cacheable : (bytes : List ℕ) (k : ℕ) → (eprom_state bytes).facts.cacheable k ≡ true
+  pub protected : (bytes : List ℕ) (k : ℕ) → (eprom_state bytes).protected k ≡ true
+  pub readable : (bytes : List ℕ) (a : ℕ) → (eprom_state bytes).settled.readable a ≡ true
+  pub lowest : (bytes : List ℕ) → (eprom_state bytes).facts.floor ≡ 0

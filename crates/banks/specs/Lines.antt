@@ -1,5 +1,5 @@
 -- Line records, and what a write does to them.
-use Rattle.std.specs.Prelude.{◌≡◌, ℕ, ◌+◌, ◌*◌, ◌<◌, false, cond, List, [], slice_index, slice_index_or, slice_set}
+use Rattle.std.specs.Prelude.{ℕ, false, cond, List, [], slice_index, slice_index_or, slice_set}
 use Rattle.port.specs.declared.Store.{Store}
 use Rattle.port.specs.Lanes.{merged}
 use Rattle.port.specs.Memory.{Memory, line_of, offset_of}
@@ -18,11 +18,6 @@ memory_of lines = record {
   word = λ a. slice_index (line_at lines (line_of a)).words (offset_of a);
   readable = λ a. slice_index_or (line_at lines (line_of a)).readable (offset_of a) false;
 }
-
--- Each record is a line of eight words, in their order.
-pub record EachRecordIsALine : Type 0 where
-  pub word : (lines : List Line) (k offset : ℕ) → offset < 8 → (memory_of lines).word (k * 8 + offset) ≡ slice_index (line_at lines k).words offset
-  pub readable : (lines : List Line) (k offset : ℕ) → offset < 8 → (memory_of lines).readable (k * 8 + offset) ≡ slice_index_or (line_at lines k).readable offset false
 
 -- The record with the lanes of a write changed in its word.
 abbrev pub changed : Line → Store → Line

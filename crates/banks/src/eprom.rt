@@ -2,7 +2,7 @@
 ghost use Rattle.std.specs.Prelude.{◌≡◌, length};
 ghost use Rattle.banks.specs.Sizes.{lines_of_bytes};
 ghost use Rattle.banks.specs.Whole.{whole_lines};
-ghost use Rattle.banks.specs.Eprom.{eprom_state, LowByteFirst};
+ghost use Rattle.banks.specs.Eprom.{eprom_state, LowByteFirst, SixteenBytesAreALine};
 
 use super::sizes::eprom_size;
 use fault::Fault;
@@ -16,10 +16,11 @@ pub struct EpromBank<'a> {
 
 impl<'a> EpromBank<'a> {
     /// A bank on these bytes; it has no words where their number is unfit.
-    #[tactic(auto, using(crate::proofs::Bytes::low_byte_first))]
+    #[tactic(auto, using(crate::proofs::Bytes::low_byte_first, crate::proofs::Numbers::sixteen_bytes))]
     pub fn new(bytes: &'a [u8]) -> EpromBank<'a>
         ensures image { result.bytes.now ≡ bytes.now }
         ensures law { LowByteFirst }
+        ensures lines { SixteenBytesAreALine }
     {
         EpromBank { bytes }
     }

@@ -1,8 +1,7 @@
 //! A bank of RAM on the caller's line records.
 ghost use Rattle.std.specs.Prelude.{◌≡◌, length};
-ghost use Rattle.banks.specs.Lines.{EachRecordIsALine};
 ghost use Rattle.banks.specs.Whole.{whole_lines};
-ghost use Rattle.banks.specs.Ram.{ram_state, RamDoes};
+ghost use Rattle.banks.specs.Ram.{ram_state, RamDoes, EachRecordIsALine};
 
 use super::line::Line;
 use super::sizes::ram_size;

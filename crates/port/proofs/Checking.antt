@@ -1,11 +1,11 @@
 -- What an answer says of a call that was accepted, and what the checks come to.
-use Rattle.std.proofs.Common.{◌≡◌, ℕ, ◌/◌, ◌<◌, ◌≤◌, ◌⊎◌, Bool, true, false, cond, ltb, Ok, Err, Result, sym, ap, ◌∙◌, subst, ap₂, inl, inr, arith}
+use Rattle.std.proofs.Common.{◌≡◌, ℕ, ◌/◌, ◌<◌, ◌≤◌, ◌⊎◌, Bool, true, false, cond, ltb, Ok, Err, Result, sym, refl, ap, ◌∙◌, subst, ap₂, inl, inr, arith}
 use Rattle.std.proofs.lemmas.Bool.Decides.{nat_tests}
 use Rattle.std.specs.Result.{result_and}
 use Rattle.fault.specs.declared.Fault.{Fault}
 use Rattle.port.specs.Memory.{Memory, Facts, seen}
 use Rattle.port.specs.Meaning.{laned, told, past_end, bad_lanes, unreadable, ByAnswer}
-use Rattle.port.specs.Laws.{RefusedInOrder, CountsStop, LanesReplaceBytes}
+use Rattle.port.specs.Laws.{RefusedInOrder, CountsStop, LanesReplaceBytes, StagesShowThePortBelow}
 
 abbrev pub Answer : Type 0
 Answer = Result (Unit {0}) Fault
@@ -65,3 +65,6 @@ counts_stop = record { floor = λ n h. omega arith; top = λ n h. omega arith; w
 
 pub lanes_replace_bytes : LanesReplaceBytes
 lanes_replace_bytes = record { low = λ h l g k a b. omega arith; high = λ h l g k a b. omega arith; both = λ h l g k a b. omega arith }
+
+pub stages_show_the_port_below : StagesShowThePortBelow
+stages_show_the_port_below = record { words = λ s. refl; floor = λ s h. omega arith; cacheable = λ s. refl; protected = λ s. refl; settled = λ s. refl; waiting = λ s. refl }

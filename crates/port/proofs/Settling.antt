@@ -4,7 +4,7 @@ use Rattle.fault.specs.declared.Fault.{Fault}
 use Rattle.port.specs.declared.Store.{Store}
 use Rattle.port.specs.Memory.{Memory, State, stored, applied, seen, posted, settling, drained, outside, raised}
 use Rattle.port.specs.Meaning.{Settles, ByAnswer}
-use Rattle.port.specs.Laws.{SettlingIsNeverSeen}
+use Rattle.port.specs.Laws.{SettlingIsNeverSeen, MarksAndFlagsStay}
 
 pub applied-append : (p : ℕ → Bool) (xs ys : List Store) (m : Memory) → applied p (xs ++ ys) m ≡ applied p ys (applied p xs m)
 applied-append p [] ys m = refl
@@ -56,6 +56,17 @@ settles_all s t a e =
 
 pub settling_is_never_seen : SettlingIsNeverSeen
 settling_is_never_seen = record { composes = settles_then; unseen = seen_kept; commutes = settles_under; ends = settles_all }
+
+pub marks_and_flags_stay : MarksAndFlagsStay
+marks_and_flags_stay = record {
+  joining = λ s ws. (refl, refl, refl);
+  settling = λ s t a. (
+    ap (λ (x : State). x.facts) a.after,
+    ap (λ (x : State). x.protected) a.after,
+    ap (λ (x : State). x.settled.readable) a.after ∙ applied_readable s.protected a.gone s.settled,
+  );
+  passing = λ s w. (refl, refl, refl);
+}
 
 -- where nothing waits, a write that is stored at once has joined and settled
 pub stored_at_once : (s t : State) (w : Store) → s.waiting ≡ [] → t ≡ outside w s → Settles (posted (w ∷ []) s) t

@@ -3,7 +3,7 @@ use Rattle.std.specs.Prelude.{◌≡◌, ℕ, ◌+◌, ◌*◌, ◌<◌, ◌≤�
 use Rattle.fault.specs.declared.Refusal.TheVariants.{PastEnd, BadLanes, Unreadable}
 use Rattle.port.specs.declared.Store.{Store}
 use Rattle.port.specs.Lanes.{merged}
-use Rattle.port.specs.Memory.{State, floor_above, seen, posted, drained}
+use Rattle.port.specs.Memory.{State, floor_above, seen, posted, drained, outside, raised}
 use Rattle.port.specs.Meaning.{read_answer, settled_answer, write_answer, snoop_answer, marks_answer, waiting_answer, Settles}
 
 pub record SettlingIsNeverSeen : Type 0 where
@@ -47,3 +47,18 @@ pub record LanesReplaceBytes : Type 0 where
   pub low : (h l g k : ℕ) → l < 256 → k < 256 → merged 1 (h * 256 + l) (g * 256 + k) ≡ h * 256 + k
   pub high : (h l g k : ℕ) → l < 256 → k < 256 → merged 2 (h * 256 + l) (g * 256 + k) ≡ g * 256 + l
   pub both : (h l g k : ℕ) → l < 256 → k < 256 → merged 3 (h * 256 + l) (g * 256 + k) ≡ g * 256 + k
+
+-- A stage shows the port below as it is, one floor higher.
+pub record StagesShowThePortBelow : Type 0 where
+  pub words : (s : State) → (raised s).facts.words ≡ s.facts.words
+  pub floor : (s : State) → s.facts.floor < 255 → (raised s).facts.floor ≡ s.facts.floor + 1
+  pub cacheable : (s : State) → (raised s).facts.cacheable ≡ s.facts.cacheable
+  pub protected : (s : State) → (raised s).protected ≡ s.protected
+  pub settled : (s : State) → (raised s).settled ≡ s.settled
+  pub waiting : (s : State) → (raised s).waiting ≡ s.waiting
+
+-- No call changes a mark of a line or the readable flag of a word: no write as it joins the waiting line or as it settles, and none from outside.
+pub record MarksAndFlagsStay : Type 0 where
+  pub joining : (s : State) (ws : List Store) → ((posted ws s).facts ≡ s.facts) × ((posted ws s).protected ≡ s.protected) × ((posted ws s).settled.readable ≡ s.settled.readable)
+  pub settling : (s t : State) → Settles s t → (t.facts ≡ s.facts) × (t.protected ≡ s.protected) × (t.settled.readable ≡ s.settled.readable)
+  pub passing : (s : State) (w : Store) → ((outside w s).facts ≡ s.facts) × ((outside w s).protected ≡ s.protected) × ((outside w s).settled.readable ≡ s.settled.readable)

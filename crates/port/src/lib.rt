@@ -7,7 +7,7 @@ ghost use Rattle.port.specs.Memory.{State, WholeLines, seen, posted, drained, ou
 ghost use Rattle.port.specs.Meaning.{within, writable, read_answer, settled_answer, write_answer, snoop_answer, marks_answer, waiting_answer, Settles, Advances, ByAnswer, Kept};
 ghost use Rattle.port.specs.Checks.{InRange, Writable};
 ghost use Rattle.port.specs.Steps.{Step, reads, writes, advances, outsides, snoops, flushes, Drains, Through};
-ghost use Rattle.port.specs.Laws.{SettlingIsNeverSeen, RefusedInOrder, CountsStop, LanesReplaceBytes};
+ghost use Rattle.port.specs.Laws.{SettlingIsNeverSeen, RefusedInOrder, CountsStop, LanesReplaceBytes, StagesShowThePortBelow, MarksAndFlagsStay};
 
 use fault::{Fault, Refusal};
 
@@ -148,11 +148,12 @@ pub trait Port {
 }
 
 /// Refuses a word past the end, on the floor of a stage over the port.
-#[tactic(auto, using(crate::proofs::Checking::counts_stop))]
+#[tactic(auto, using(crate::proofs::Checking::counts_stop, crate::proofs::Checking::stages_show_the_port_below))]
 pub fn check_above<P: Port>(below: &P, word: u32) -> Result<(), Fault>
     ensures value { result ≡ snoop_answer (raised (P.state below.now)) word }
     ensures passed { OnOk result (InRange (P.state below.now) word) }
     ensures law { CountsStop }
+    ensures shows { StagesShowThePortBelow }
 {
     check_range(word, below.words(), below.floor().saturating_add(1))
 }
@@ -185,10 +186,12 @@ pub fn settle_all<P: Port>(port: &mut P)
 }
 
 /// A write that has settled, with all that waited before it, when the call returns.
+#[tactic(auto, using(crate::proofs::Settling::marks_and_flags_stay))]
 pub fn write_through<P: Port>(port: &mut P, write: Store) -> Result<(), Fault>
     ensures value { result ≡ write_answer (P.state port.old) write }
     ensures after { ByAnswer result (P.state port.new ≡ drained (posted (write ∷ []) (P.state port.old))) (port.new ≡ port.old) }
     ensures did { Through P.state P.does write result port.old port.new }
+    ensures law { MarksAndFlagsStay }
 {
     port.write(write)?;
     settle_all(port);

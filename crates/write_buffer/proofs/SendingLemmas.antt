@@ -1,5 +1,5 @@
 -- How a queue over a port sends its writes below.
-use Rattle.std.proofs.Common.{◌≡◌, ◌<◌, ◌≤◌, List, [], ◌∷◌, ◌++◌, length, Ok, Option, sym, ap, ◌∙◌, subst, append_assoc, arith, length-append}
+use Rattle.std.proofs.Common.{◌≡◌, ◌<◌, ◌≤◌, List, [], ◌∷◌, ◌++◌, length, Ok, Option, sym, refl, ap, ◌∙◌, subst, append_assoc, arith, length-append}
 use Rattle.std.specs.Option.{option_to_list as left}
 use Rattle.port.specs.declared.Store.{Store}
 use Rattle.port.specs.Memory.{State, posted, raised}
@@ -29,6 +29,10 @@ pub holding_back_is_never_seen : HoldingBackIsNeverSeen
 holding_back_is_never_seen = record {
   sees = λ s ws. applied-append s.protected s.waiting ws s.settled;
   unseen = λ s t w ws a. seen_kept _ _ (send_buffered s t w ws a);
+  waiting = λ s ws. refl;
+  facts = λ s ws. refl;
+  protected = λ s ws. refl;
+  settled = λ s ws. refl;
 }
 
 -- one turn of sending a queue below

@@ -65,3 +65,8 @@ pub record HoldingBackIsNeverSeen : Type 0 where
   pub sees : (s : State) (ws : List Store) → seen (buffered s ws) ≡ applied s.protected ws (seen s)
   -- to send the oldest below changes nothing that is seen above
   pub unseen : (s t : State) (w : Store) (ws : List Store) → Settles (posted (w ∷ []) s) t → seen (buffered t ws) ≡ seen (buffered s (w ∷ ws))
+  -- the queue waits behind the waiting line below, and all else is what a stage shows
+  pub waiting : (s : State) (ws : List Store) → (buffered s ws).waiting ≡ s.waiting ++ ws
+  pub facts : (s : State) (ws : List Store) → (buffered s ws).facts ≡ (raised s).facts
+  pub protected : (s : State) (ws : List Store) → (buffered s ws).protected ≡ s.protected
+  pub settled : (s : State) (ws : List Store) → (buffered s ws).settled ≡ s.settled
