@@ -21,7 +21,7 @@ module _ {P : Type 0} (G : Ghosts P) where
       subst (λ (a : Result (Unit {0}) Fault). ByAnswer a (TakesTurn (read_turn (shows_below b) (tables_of b) w) b c) (c ≡ b)) in_range h
 
   pub hits_only_touch : HitsOnlyTouch G
-  hits_only_touch b c w r h inside = (read_turn (shows_below b) (tables_of b) w, read_takes b c w r h inside, hit_touches (shows_below b) (tables_of b) w)
+  hits_only_touch b c w r h inside = (read_turn (shows_below b) (tables_of b) w, read_takes b c w r h inside, hit_touches (shows_below b) (tables_of b) w b.coherent)
 
   pub misses_begin_fills : MissesBeginFills G
   misses_begin_fills b c w r h inside = (read_turn (shows_below b) (tables_of b) w, read_takes b c w r h inside, miss_fills (shows_below b) (tables_of b) w b.coherent inside)

@@ -22,7 +22,7 @@ use Rattle.cache_tables.proofs.Fetching.{shown_kept, fetch_falls}
 use Rattle.cache_tables.proofs.Reading.{buffered_sees, hit_sees, none_found}
 use Rattle.cache_tables.proofs.Changing.{left_some}
 use Rattle.cache_tables.proofs.Trying.{two_line_examples_hold}
-use Rattle.cache_tables.proofs.Staying.{not_buffered, same_lines}
+use Rattle.cache_tables.proofs.Staying.{goes_on, not_buffered, same_lines}
 
 named : (v : Shown) (d : Dir) (w : ℕ) (b : Fill) → (begun v d w).fill ≡ Some b → NamedAtTheMiss v d w b
 named v d w b = by_tests (v.readable w) (v.cacheable (line_of w)) refl
@@ -33,26 +33,6 @@ named v d w b = by_tests (v.readable w) (v.cacheable (line_of w)) refl
         record { cached = ek; line = ap (λ (x : Fill). x.line) same; way = ap (λ (x : Fill). x.way) same }
     by_tests true false ek e = absurd (cc)
     by_tests false k ek e = absurd (cc)
-
-goes_on : (v : Shown) (d : Dir) (f : Option Fill) (b c : Fill) → f ≡ Some b → (fetched_of v d f).fill ≡ Some c → GoesOn b c
-goes_on v d None b c is e = absurd (cc)
-goes_on v d (Some a) b c is e = by_read (v.readable (next_word a)) e
-  where
-    by_full : (full : Bool) → (cond full (idle (installed d a.line a.way a.protect (with_word a (v.word (next_word a))).words)) (record { dir = d; fill = Some (with_word a (v.word (next_word a))) })).fill ≡ Some c → GoesOn b c
-    by_full true e = absurd (cc)
-    by_full false e =
-        let same : c ≡ with_word a (v.word (next_word a)) = cc in
-        let began : a ≡ b = cc in
-        record {
-          line = ap (λ (x : Fill). x.line) same ∙ ap (λ (x : Fill). x.line) began;
-          first = ap (λ (x : Fill). x.first) same ∙ ap (λ (x : Fill). x.first) began;
-          way = ap (λ (x : Fill). x.way) same ∙ ap (λ (x : Fill). x.way) began;
-          protect = ap (λ (x : Fill). x.protect) same ∙ ap (λ (x : Fill). x.protect) began;
-        }
-
-    by_read : (r : Bool) → (cond r (stowed d (with_word a (v.word (next_word a)))) (idle d)).fill ≡ Some c → GoesOn b c
-    by_read true e = by_full (complete (with_word a (v.word (next_word a)))) e
-    by_read false e = absurd (cc)
 
 pub finishes : (v : Shown) (n : ℕ) (d : Dir) (f : Option Fill) → Coherent v (record { dir = d; fill = f }) → lacking f ≤ n → fetched_times n v (record { dir = d; fill = f }) ≡ finished_of v d f
 finishes v zero d None c h = refl

@@ -1,5 +1,5 @@
 -- What each call makes of the tables, in the words of the laws.
-use Rattle.std.proofs.Common.{◌≡◌, ℕ, ◌<◌, Bool, true, false, cond, if◌then◌else◌, not, ◌&&◌, eqb, [], ◌∷◌, ◌++◌, Some, None, Ok, Option, sym, refl, ap, ◌∙◌, subst, inl, inr, arith, ◌/◌, zero, suc, ◌≤◌, length, length-append}
+use Rattle.std.proofs.Common.{◌≡◌, ℕ, ◌<◌, Bool, true, false, cond, if◌then◌else◌, not, ◌&&◌, eqb, [], ◌∷◌, ◌++◌, Some, None, Ok, Option, count_ones, sym, refl, ap, ◌∙◌, subst, inl, inr, arith, ◌/◌, zero, suc, ◌≤◌, length, length-append}
 use Rattle.std.specs.Option.{option_map_or}
 use Rattle.std.proofs.lemmas.Bool.{cond-true, cond-false, cases_eq, eq-eqb, ne_eqb, and_left, and_right, and_from, not_from_true}
 use Rattle.port.specs.declared.Store.{Store}
@@ -10,16 +10,16 @@ use Rattle.directory.specs.declared.sets.Way.{Way}
 use Rattle.directory.specs.declared.fills.Fill.{Fill}
 use Rattle.directory.specs.Touch.{victim_of}
 use Rattle.directory.specs.Dirs.{Dir, set_of, touched, found, installed, changed}
-use Rattle.directory.specs.Ticks.{next_word, complete, starting, with_word, fetched_word}
+use Rattle.directory.specs.Ticks.{next_word, complete, starting, with_word, fetched_word, UnderWay}
 use Rattle.directory.specs.Laws.{WayIsTouched, InstallKeepsOtherLines, StoreAddsItsWord}
 use Rattle.directory.proofs.Apart.{install_keeps, change_moves_none}
 use Rattle.directory.proofs.Sparing.{touch_touches, touch_again}
-use Rattle.directory.proofs.Ticking.{starts, store_adds}
+use Rattle.directory.proofs.Ticking.{within, starts, store_adds}
 use Rattle.cache_tables.specs.Showing.{Shown, line_seen, whole, reading}
 use Rattle.cache_tables.specs.Rules.{Model, Turn, turn, idle, stowed, fetched_of, finished_of, finished, finish_calls, finish_turn, buffered_of, hit_of, hit, touched_of, touched_by, begun_fill, begun, read_after, read_turn, changed_word, changed_way, changed_of, written, fills_open, ready_turn, write_turn, advance_turn, fetches, lacking, fetch_calls, fetched}
 use Rattle.cache_tables.specs.Coherence.{Coherent}
-use Rattle.cache_tables.specs.Laws.{Fetched, NotFetched, AsksForTheWord, ReadLeavesAll, ReadOnlyTouches, NothingAnswers, FillBegins, LateHitTouches, HitTouches, MissFills, NoneOpen, WriteOnlyTouches, WriteLandsTheLine, WriteLandsOrTouches, GoesOn, OneWordComes, AdvanceFetchesOne}
-use Rattle.cache_tables.proofs.Keeping.{given, abandon, install_fill}
+use Rattle.cache_tables.specs.Laws.{ReadsOfLine, ReadsWhatLacks, Fetched, NotFetched, AsksForTheWord, ReadLeavesAll, ReadOnlyTouches, NothingAnswers, FillBegins, LateHitTouches, HitTouches, MissFills, NoneOpen, WriteOnlyTouches, WriteLandsTheLine, WriteLandsOrTouches, GoesOn, OneWordComes, AdvanceFetchesOne}
+use Rattle.cache_tables.proofs.Keeping.{given, abandon, install_fill, fetch_keeps}
 use Rattle.cache_tables.proofs.Reading.{hit_sees, none_found, nothing_fetched, starts_there, begun_at}
 use Rattle.cache_tables.proofs.Changing.{overwritten, write_keeps}
 
@@ -37,8 +37,42 @@ few_fetched (suc n) v t =
     let sum = length-append (fetch_calls v t.fill) (fetches n v (fetched v t)) in
     omega (arith, one, rest, sum)
 
-few_calls : (v : Shown) (t : Model) → length (finish_calls v t) ≤ lacking t.fill
-few_calls v t = few_fetched (lacking t.fill) v t
+pub goes_on : (v : Shown) (d : Dir) (f : Option Fill) (b c : Fill) → f ≡ Some b → (fetched_of v d f).fill ≡ Some c → GoesOn b c
+goes_on v d None b c is e = absurd (cc)
+goes_on v d (Some a) b c is e = by_read (v.readable (next_word a)) e
+  where
+    by_full : (full : Bool) → (cond full (idle (installed d a.line a.way a.protect (with_word a (v.word (next_word a))).words)) (record { dir = d; fill = Some (with_word a (v.word (next_word a))) })).fill ≡ Some c → GoesOn b c
+    by_full true e = absurd (cc)
+    by_full false e =
+        let same : c ≡ with_word a (v.word (next_word a)) = cc in
+        let began : a ≡ b = cc in
+        record {
+          line = ap (λ (x : Fill). x.line) same ∙ ap (λ (x : Fill). x.line) began;
+          first = ap (λ (x : Fill). x.first) same ∙ ap (λ (x : Fill). x.first) began;
+          way = ap (λ (x : Fill). x.way) same ∙ ap (λ (x : Fill). x.way) began;
+          protect = ap (λ (x : Fill). x.protect) same ∙ ap (λ (x : Fill). x.protect) began;
+        }
+
+    by_read : (r : Bool) → (cond r (stowed d (with_word a (v.word (next_word a)))) (idle d)).fill ≡ Some c → GoesOn b c
+    by_read true e = by_full (complete (with_word a (v.word (next_word a)))) e
+    by_read false e = absurd (cc)
+
+in_line : (b : Fill) → UnderWay b → line_of (next_word b) ≡ b.line
+in_line b u = let small = within b.first (count_ones b.ticks) u.ordered.offset u.short in omega (arith, small)
+
+fetches_line : (v : Shown) (n : ℕ) (d : Dir) (f : Option Fill) (l : ℕ) → Coherent v (record { dir = d; fill = f }) → ((b : Fill) → f ≡ Some b → b.line ≡ l) → ReadsOfLine v l (fetches n v (record { dir = d; fill = f }))
+fetches_line v zero d f l c h = tt
+fetches_line v (suc n) d None l c h = fetches_line v n d None l c h
+fetches_line v (suc n) d (Some b) l c h =
+    let next = fetched_of v d (Some b) in
+    ((next_word b, in_line b (c.fill b refl).under ∙ h b refl, refl),
+    fetches_line v n next.dir next.fill l (fetch_keeps v d (Some b) c) (λ x e. (goes_on v d (Some b) b x refl e).line ∙ h b refl))
+
+what_lacks : (v : Shown) (t : Model) → Coherent v t → ReadsWhatLacks v t (finish_calls v t)
+what_lacks v t c = record {
+  few = few_fetched (lacking t.fill) v t;
+  line = λ b is. fetches_line v (lacking t.fill) t.dir t.fill b.line c (λ x e. let same : x ≡ b = cc in ap (λ (y : Fill). y.line) same);
+}
 
 -- ---- a read
 
@@ -118,25 +152,25 @@ module _ (v : Shown) (t : Model) (w : ℕ) where
         calls = ap (λ (u : Turn). u.calls) same;
       }
 
-  late_hits_touch : (k : WayNumber) → NotFetched t w → found t.dir (line_of w) ≡ None → found (finished v t).dir (line_of w) ≡ Some k → LateHitTouches v t w k (read_turn v t w)
-  late_hits_touch k b n e =
+  late_hits_touch : Coherent v t → (k : WayNumber) → NotFetched t w → found t.dir (line_of w) ≡ None → found (finished v t).dir (line_of w) ≡ Some k → LateHitTouches v t w k (read_turn v t w)
+  late_hits_touch c k b n e =
       let same = read_late (not_buffered b) n k e in
       let F : Turn → Type 0 = λ u. WayIsTouched (finished v t).dir u.tables.dir (line_of w) k in
       record {
         touch = subst F (sym same) (touch_touches (finished v t).dir (finished v t).dir (line_of w) k refl);
         ways = ap (λ (u : Turn). u.tables.dir.way) same;
         fill = ap (λ (u : Turn). u.tables.fill) same ∙ ap (λ (m : Model). m.fill) finish_idle;
-        few = let n = ap (λ (u : Turn). length u.calls) same in let few = few_calls v t in omega (arith, n, few);
+        calls = subst (ReadsWhatLacks v t) (sym (ap (λ (u : Turn). u.calls) same)) (what_lacks v t c);
       }
 
-  pub hit_touches : HitTouches v t w (read_turn v t w)
-  hit_touches = record { buffered = buffered_leaves_all; held = held_only_touches; late = late_hits_touch }
+  pub hit_touches : Coherent v t → HitTouches v t w (read_turn v t w)
+  hit_touches c = record { buffered = buffered_leaves_all; held = held_only_touches; late = late_hits_touch c }
 
   all_missed : NothingAnswers v t w → read_turn v t w ≡ turn (begun v (finished v t).dir w) (finish_calls v t ++ (reads w (reading v w) ∷ []))
   all_missed n = read_missed (not_buffered n.buffer) n.way n.late
 
-  misses_ask_once : NothingAnswers v t w → AsksForTheWord v t w (read_turn v t w)
-  misses_ask_once n = record { first = finish_calls v t; few = few_calls v t; calls = ap (λ (u : Turn). u.calls) (all_missed n) }
+  misses_ask_once : Coherent v t → NothingAnswers v t w → AsksForTheWord v t w (read_turn v t w)
+  misses_ask_once c n = record { first = finish_calls v t; finishing = what_lacks v t c; calls = ap (λ (u : Turn). u.calls) (all_missed n) }
 
   misses_else_nothing : NothingAnswers v t w → (v.readable w ≡ true → v.cacheable (line_of w) ≡ false) → (read_turn v t w).tables ≡ finished v t
   misses_else_nothing n barred =
@@ -171,7 +205,7 @@ module _ (v : Shown) (t : Model) (w : ℕ) where
       }
 
   pub miss_fills : Coherent v t → w < v.words → MissFills v t w (read_turn v t w)
-  miss_fills c inside = record { asks = misses_ask_once; else_nothing = misses_else_nothing; fills = misses_fill c inside }
+  miss_fills c inside = record { asks = misses_ask_once c; else_nothing = misses_else_nothing; fills = misses_fill c inside }
 
 -- ---- a fill is finished
 
@@ -316,7 +350,7 @@ module _ (v : Shown) (t : Model) (w : Store) (c : Coherent v t) where
           ∙ ap (λ (x : Bool). written (idle (cond x (installed t.dir b.line b.way b.protect (line_seen v b.line)) t.dir)) w) none
           ∙ ap (λ (k : Option WayNumber). idle (changed_of t.dir w k)) (ap (found t.dir) (sym at) ∙ (c.fill b is).absent);
       first = finish_calls v t;
-      few = few_calls v t;
+      finishing = what_lacks v t c;
       calls = ap (λ (u : Turn). u.calls ++ (writes w (Ok tt) ∷ [])) (cond-true (fills_open t.fill line) (finish_turn v t) (turn t []) is_open);
     }
 

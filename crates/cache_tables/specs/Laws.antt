@@ -57,6 +57,16 @@ Fetched t w = (b : Fill) × (x : ℕ) × (t.fill ≡ Some b) × (fetched_word b 
 abbrev pub NotFetched : Model → ℕ → Type 0
 NotFetched t w = (b : Fill) → t.fill ≡ Some b → fetched_word b w ≡ None
 
+-- Each of these calls reads a word of the line.
+abbrev pub ReadsOfLine : Shown → ℕ → List Step → Type 0
+ReadsOfLine v line [] = Unit {0}
+ReadsOfLine v line (d ∷ ds) = ((a : ℕ) × (line_of a ≡ line) × (d ≡ reads a (reading v a))) × ReadsOfLine v line ds
+
+-- Before anything else, words of the line under fill may be read below, as many at most as it lacks.
+pub record ReadsWhatLacks (v : Shown) (t : Model) (calls : List Step) : Type 0 where
+  pub few : length calls ≤ lacking t.fill
+  pub line : (b : Fill) → t.fill ≡ Some b → ReadsOfLine v b.line calls
+
 -- Whichever way holds the word's line is not the next victim of its set.
 abbrev pub HolderIsSpared : Model → ℕ → Type 0
 HolderIsSpared t w = (k : WayNumber) → found t.dir (line_of w) ≡ Some k → victim_of (t.dir.lru (set_of (line_of w))) ≢ k
@@ -82,7 +92,7 @@ pub record LateHitTouches (v : Shown) (t : Model) (w : ℕ) (k : WayNumber) (u :
   pub touch : WayIsTouched (finished v t).dir u.tables.dir (line_of w) k
   pub ways : u.tables.dir.way ≡ (finished v t).dir.way
   pub fill : u.tables.fill ≡ None
-  pub few : length u.calls ≤ lacking t.fill
+  pub calls : ReadsWhatLacks v t u.calls
 
 pub record HitTouches (v : Shown) (t : Model) (w : ℕ) (u : Turn) : Type 0 where
   pub buffered : Fetched t w → ReadLeavesAll t u
@@ -95,10 +105,10 @@ pub record NothingAnswers (v : Shown) (t : Model) (w : ℕ) : Type 0 where
   pub way : found t.dir (line_of w) ≡ None
   pub late : found (finished v t).dir (line_of w) ≡ None
 
--- The port below is then asked for the word once, after a word each at most that the fill under way lacked.
+-- The port below is then asked for the word once, after what the fill under way lacked.
 pub record AsksForTheWord (v : Shown) (t : Model) (w : ℕ) (u : Turn) : Type 0 where
   pub first : List Step
-  pub few : length first ≤ lacking t.fill
+  pub finishing : ReadsWhatLacks v t first
   pub calls : u.calls ≡ first ++ (reads w (reading v w) ∷ [])
 
 -- The word is then the first of a new fill, and the only one yet, for the way that the LRU bits name at this moment.
@@ -139,7 +149,7 @@ pub record WriteLandsTheLine (v : Shown) (t : Model) (w : Store) (b : Fill) (u :
   -- if a word of it cannot be read, nothing is kept, and nothing else changes
   pub torn : whole v b.line ≡ false → u.tables ≡ idle t.dir
   pub first : List Step
-  pub few : length first ≤ lacking t.fill
+  pub finishing : ReadsWhatLacks v t first
   pub calls : u.calls ≡ first ++ (writes w (Ok tt) ∷ [])
 
 pub record WriteLandsOrTouches (v : Shown) (t : Model) (w : Store) (u : Turn) : Type 0 where
