@@ -16,7 +16,7 @@ use Rattle.directory.proofs.Sparing.{touch_spares}
 use Rattle.cache_tables.specs.Showing.{Shown, reading, line_seen, whole}
 use Rattle.cache_tables.specs.Rules.{Model, turn, idle, stowed, fetched_of, finished_of, finished, finish_calls, finish_turn, lacking, buffered_of, hit, touched_of, touched_by, begun_fill, left_of, begun, read_after, read_turn, dropped, cleared, changed_way, changed_of, written}
 use Rattle.cache_tables.specs.Coherence.{Coherent}
-use Rattle.cache_tables.specs.Laws.{NamedAtTheMiss, GoesOn, NotFetched, HolderIsSpared, LineIsGone, AllIsForgotten, fetched_times, SettlingNeverShows, AnswersAreWhatIsSeen, LinesLandWhereNamed}
+use Rattle.cache_tables.specs.Laws.{NamedAtTheMiss, NotFetched, HolderIsSpared, LineIsGone, AllIsForgotten, fetched_times, SettlingNeverShows, AnswersAreWhatIsSeen, LinesLandWhereNamed}
 use Rattle.cache_tables.proofs.Keeping.{fetch_keeps, fetch_finishes}
 use Rattle.cache_tables.proofs.Fetching.{shown_kept, fetch_falls}
 use Rattle.cache_tables.proofs.Reading.{buffered_sees, hit_sees, none_found}

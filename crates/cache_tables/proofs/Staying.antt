@@ -64,9 +64,10 @@ fetches_line : (v : Shown) (n : ℕ) (d : Dir) (f : Option Fill) (l : ℕ) → C
 fetches_line v zero d f l c h = tt
 fetches_line v (suc n) d None l c h = fetches_line v n d None l c h
 fetches_line v (suc n) d (Some b) l c h =
-    let next = fetched_of v d (Some b) in
-    ((next_word b, in_line b (c.fill b refl).under ∙ h b refl, refl),
-    fetches_line v n next.dir next.fill l (fetch_keeps v d (Some b) c) (λ x e. (goes_on v d (Some b) b x refl e).line ∙ h b refl))
+    let next = fetched_of v d (Some b) in (
+      (next_word b, in_line b (c.fill b refl).under ∙ h b refl, refl),
+      fetches_line v n next.dir next.fill l (fetch_keeps v d (Some b) c) (λ x e. (goes_on v d (Some b) b x refl e).line ∙ h b refl),
+    )
 
 what_lacks : (v : Shown) (t : Model) → Coherent v t → ReadsWhatLacks v t (finish_calls v t)
 what_lacks v t c = record {
