@@ -10,7 +10,7 @@ use Rattle.directory.specs.declared.lru.WayNumber.{WayNumber}
 use Rattle.directory.specs.declared.fills.Fill.{Fill}
 use Rattle.port.specs.Memory.{line_of, offset_of}
 use Rattle.directory.specs.Ticks.{ticked, tick, offset_at, ticks_after, next_offset, next_word, fetched_word, starting, with_word, Ordered, UnderWay}
-use Rattle.directory.specs.Laws.{FillFetchesEachWordOnce, NewTickAddsOne, StoreAddsItsWord, EightTicksAreAll}
+use Rattle.directory.specs.Laws.{turned, FillFetchesEachWordOnce, NewTickAddsOne, StoreAddsItsWord, EightTicksAreAll}
 
 -- the test p passes at each number below n
 abbrev passes : (ℕ → Bool) → ℕ → Bool
@@ -64,14 +64,7 @@ each_offset_once = record {
   within = within;
   reached = λ first p hf hp. (offset_at first p, within first p hf hp, undone first p hf hp);
   once = λ first j k hf hj hk e. sym (undone first j hf hj) ∙ ap (λ (x : ℕ). offset_at first x) e ∙ undone first k hf hk;
-  from_0 = refl;
-  from_1 = refl;
-  from_2 = refl;
-  from_3 = refl;
-  from_4 = refl;
-  from_5 = refl;
-  from_6 = refl;
-  from_7 = refl;
+  order = λ first step hf hs. eqb-true (offset_at first step) (turned first step) (below_both (λ a b. eqb (offset_at a b) (turned a b)) 8 8 refl first step hf hs);
 }
 
 -- k steps tick k offsets

@@ -1,5 +1,5 @@
 -- What holds of the tables whatever was done to them.
-use Rattle.std.specs.Prelude.{◌≡◌, ℕ, zero, suc, ◌+◌, ◌^◌, ◌<◌, ◌≤◌, true, false, cond, ◌≢◌, List, [], ◌∷◌, map, find, is_some, Some, None, Option, ◌==◌, nat_lt, count_ones}
+use Rattle.std.specs.Prelude.{◌≡◌, ℕ, zero, suc, ◌+◌, ◌*◌, ◌/◌, ◌%◌, ◌^◌, ◌<◌, ◌≤◌, true, false, cond, ◌≢◌, List, [], ◌∷◌, find, is_some, Some, None, Option, ◌==◌, nat_lt, count_ones}
 use Rattle.directory.specs.declared.lru.LruBits.{LruBits}
 use Rattle.directory.specs.declared.lru.WayNumber.{WayNumber}
 use Rattle.directory.specs.declared.sets.Way.{Way}
@@ -80,22 +80,17 @@ pub record EachValidWayCounts : Type 0 where
   pub none : valid_ways emptied ≡ 0
   pub one : (d : Dir) (i : ℕ) (k : WayNumber) (w : Option Way) → i < 256 → valid_ways (put d i k w) + as_one (d.way i k) ≡ valid_ways d + as_one w
 
-abbrev pub eight : List ℕ
-eight = 0 ∷ 1 ∷ 2 ∷ 3 ∷ 4 ∷ 5 ∷ 6 ∷ 7 ∷ []
+-- The first offset, with those of its three bits turned that the step has.
+abbrev pub turned : ℕ → ℕ → ℕ
+turned first step = (first + step) % 2 + (first / 2 + step / 2) % 2 * 2 + (first / 4 + step / 4) % 2 * 4
 
--- The eight steps of a fill visit each offset of the line, and none twice, whatever the first; and in this order.
+-- The eight steps of a fill visit each offset of the line, and none twice, whatever the first; and in this order: its neighbour next, then the other pair of its half line,
+-- then the other half alike.
 pub record FillFetchesEachWordOnce : Type 0 where
   pub within : (first step : ℕ) → first < 8 → step < 8 → offset_at first step < 8
   pub reached : (first offset : ℕ) → first < 8 → offset < 8 → (step : ℕ) × (step < 8) × (offset_at first step ≡ offset)
   pub once : (first j k : ℕ) → first < 8 → j < 8 → k < 8 → offset_at first j ≡ offset_at first k → j ≡ k
-  pub from_0 : map (offset_at 0) eight ≡ 0 ∷ 1 ∷ 2 ∷ 3 ∷ 4 ∷ 5 ∷ 6 ∷ 7 ∷ []
-  pub from_1 : map (offset_at 1) eight ≡ 1 ∷ 0 ∷ 3 ∷ 2 ∷ 5 ∷ 4 ∷ 7 ∷ 6 ∷ []
-  pub from_2 : map (offset_at 2) eight ≡ 2 ∷ 3 ∷ 0 ∷ 1 ∷ 6 ∷ 7 ∷ 4 ∷ 5 ∷ []
-  pub from_3 : map (offset_at 3) eight ≡ 3 ∷ 2 ∷ 1 ∷ 0 ∷ 7 ∷ 6 ∷ 5 ∷ 4 ∷ []
-  pub from_4 : map (offset_at 4) eight ≡ 4 ∷ 5 ∷ 6 ∷ 7 ∷ 0 ∷ 1 ∷ 2 ∷ 3 ∷ []
-  pub from_5 : map (offset_at 5) eight ≡ 5 ∷ 4 ∷ 7 ∷ 6 ∷ 1 ∷ 0 ∷ 3 ∷ 2 ∷ []
-  pub from_6 : map (offset_at 6) eight ≡ 6 ∷ 7 ∷ 4 ∷ 5 ∷ 2 ∷ 3 ∷ 0 ∷ 1 ∷ []
-  pub from_7 : map (offset_at 7) eight ≡ 7 ∷ 6 ∷ 5 ∷ 4 ∷ 3 ∷ 2 ∷ 1 ∷ 0 ∷ []
+  pub order : (first step : ℕ) → first < 8 → step < 8 → offset_at first step ≡ turned first step
 
 -- Ticking a new offset adds one.
 abbrev pub NewTickAddsOne : Type 0
