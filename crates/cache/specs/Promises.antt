@@ -11,7 +11,7 @@ use Rattle.cache_tables.specs.Rules.{Model, Turn}
 use Rattle.cache_tables.specs.Laws.{NotFetched, HolderIsSpared, HitTouches, MissFills, WriteLandsOrTouches, AdvanceFetchesOne, LineIsGone, AllIsForgotten}
 use Rattle.cache.specs.Doing.{tables_of, TakesTurn, Does}
 
--- What a port shows, in its own terms.
+-- What a port shows, in its own terms and not by the definition that the rules go by.
 abbrev pub port_shows : State → Shown
 port_shows s = record { words = s.facts.words; cacheable = s.facts.cacheable; protected = s.protected; word = (seen s).word; readable = (seen s).readable }
 
@@ -20,44 +20,44 @@ module _ {P : Type 0} (G : Ghosts P) where
   below_of b = port_shows (G.state b.below)
 
   -- A call takes a turn of which this is so.
-  abbrev pub Takes : (Turn → Type 0) → Cache P G → Cache P G → Type 0
-  Takes so b c = (u : Turn) × TakesTurn u b c × so u
+  abbrev pub TakesTurnWith : (Turn → Type 0) → Cache P G → Cache P G → Type 0
+  TakesTurnWith so b c = (u : Turn) × TakesTurn u b c × so u
 
-  -- It is so of each read of a word in range, of each accepted write, and of each advance: of what the port below shows, the tables before the
-  -- call, and the turn.
-  abbrev pub OfReads : (Shown → Model → ℕ → Turn → Type 0) → Type 0
-  OfReads so = (b c : Cache P G) (w : ℕ) (r : Result ℕ Fault) → Does b (reads w r) c → w < (G.state b.below).facts.words → Takes (so (below_of b) (tables_of b) w) b c
+  -- This is so of each read of a word in range, of each accepted write, of each advance: of what the port below shows, of the tables before the
+  -- call, and of its turn.
+  abbrev pub EachRead : (Shown → Model → ℕ → Turn → Type 0) → Type 0
+  EachRead so = (b c : Cache P G) (w : ℕ) (r : Result ℕ Fault) → Does b (reads w r) c → w < (G.state b.below).facts.words → TakesTurnWith (so (below_of b) (tables_of b) w) b c
 
-  abbrev pub OfWrites : (Shown → Model → Store → Turn → Type 0) → Type 0
-  OfWrites so = (b c : Cache P G) (w : Store) → Does b (writes w (Ok tt)) c → Takes (so (below_of b) (tables_of b) w) b c
+  abbrev pub EachWrite : (Shown → Model → Store → Turn → Type 0) → Type 0
+  EachWrite so = (b c : Cache P G) (w : Store) → Does b (writes w (Ok tt)) c → TakesTurnWith (so (below_of b) (tables_of b) w) b c
 
-  abbrev pub OfAdvances : (Shown → Model → Turn → Type 0) → Type 0
-  OfAdvances so = (b c : Cache P G) → Does b advances c → Takes (so (below_of b) (tables_of b)) b c
+  abbrev pub EachAdvance : (Shown → Model → Turn → Type 0) → Type 0
+  EachAdvance so = (b c : Cache P G) → Does b advances c → TakesTurnWith (so (below_of b) (tables_of b)) b c
 
   -- A word from the line buffer changes nothing, and a word from a way only touches that way.
   abbrev pub HitsOnlyTouch : Type 0
-  HitsOnlyTouch = OfReads HitTouches
+  HitsOnlyTouch = EachRead HitTouches
 
   -- A word that neither answers is asked for once; where it can be read and its line may be cached it begins a fill, and else nothing does.
   abbrev pub MissesBeginFills : Type 0
-  MissesBeginFills = OfReads MissFills
+  MissesBeginFills = EachRead MissFills
 
   -- A write to an open line under fill finishes that line and stands in it; any other only touches the way that holds its line.
   abbrev pub WritesLandOrOnlyTouch : Type 0
-  WritesLandOrOnlyTouch = OfWrites WriteLandsOrTouches
+  WritesLandOrOnlyTouch = EachWrite WriteLandsOrTouches
 
   -- An advance brings one word of a fill at most.
   abbrev pub AdvancesFetchOneWord : Type 0
-  AdvancesFetchOneWord = OfAdvances AdvanceFetchesOne
+  AdvancesFetchOneWord = EachAdvance AdvanceFetchesOne
 
   -- A read that the line buffer does not answer touches the way that holds the line, and so does a write.
   pub record UsedWaysAreSpared : Type 0 where
-    pub reads : OfReads (λ v t w u. NotFetched t w → HolderIsSpared u.tables w)
-    pub writes : OfWrites (λ v t w u. HolderIsSpared u.tables w.word)
+    pub reads : EachRead (λ v t w u. NotFetched t w → HolderIsSpared u.tables w)
+    pub writes : EachWrite (λ v t w u. HolderIsSpared u.tables w.word)
 
   -- A snoop and an outside write make the cache forget the line, wherever it is, and a flush all lines; they are passed on, and nothing else is
   -- asked below.
   pub record MastersWritesAreForgotten : Type 0 where
-    pub snoops : (b c : Cache P G) (w : ℕ) → Does b (snoops w (Ok tt)) c → Takes (λ u. LineIsGone (tables_of b) u.tables (line_of w) × (u.calls ≡ snoops w (Ok tt) ∷ [])) b c
-    pub outsides : (b c : Cache P G) (w : Store) → Does b (outsides w (Ok tt)) c → Takes (λ u. LineIsGone (tables_of b) u.tables (line_of w.word) × (u.calls ≡ outsides w (Ok tt) ∷ [])) b c
-    pub flushes : (b c : Cache P G) → Does b flushes c → Takes (λ u. AllIsForgotten u.tables × (u.calls ≡ flushes ∷ [])) b c
+    pub snoops : (b c : Cache P G) (w : ℕ) → Does b (snoops w (Ok tt)) c → TakesTurnWith (λ u. LineIsGone (tables_of b) u.tables (line_of w) × (u.calls ≡ snoops w (Ok tt) ∷ [])) b c
+    pub outsides : (b c : Cache P G) (w : Store) → Does b (outsides w (Ok tt)) c → TakesTurnWith (λ u. LineIsGone (tables_of b) u.tables (line_of w.word) × (u.calls ≡ outsides w (Ok tt) ∷ [])) b c
+    pub flushes : (b c : Cache P G) → Does b flushes c → TakesTurnWith (λ u. AllIsForgotten u.tables × (u.calls ≡ flushes ∷ [])) b c
