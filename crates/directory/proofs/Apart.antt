@@ -10,7 +10,7 @@ use Rattle.directory.specs.Touch.{index_of, same_way, every_way}
 use Rattle.directory.specs.Sets.{filled_way, worded_way, has_tag}
 use Rattle.directory.specs.Dirs.{Dir, set_of, tag_of, emptied, put, holds, found, installed, dropped_of, dropped, changed, twin_ways}
 use Rattle.port.specs.Memory.{line_of, offset_of}
-use Rattle.directory.specs.Laws.{TagsAreApart, OneWayHoldsALine, InstallKeepsOtherLines, DropForgetsOneLine, ChangeMovesNoLine}
+use Rattle.directory.specs.Laws.{LinesAreDealtToSets, TagsAreApart, OneWayHoldsALine, InstallKeepsOtherLines, DropForgetsOneLine, ChangeMovesNoLine}
 use Rattle.directory.proofs.Numbering.{index_injective}
 use Rattle.directory.proofs.Sparing.{touch_touches}
 
@@ -226,3 +226,8 @@ module _ (d : Dir) (word : ℕ) (k : WayNumber) (value : ℕ) where
 
   pub change_moves_none : ChangeMovesNoLine d (changed d word k value)
   change_moves_none line = λ n. find (λ j. same_holds line j n) every_way
+
+-- ---- sets and tags
+
+pub lines_are_dealt : LinesAreDealtToSets
+lines_are_dealt = record { set = λ t k h. omega (arith, h); tag = λ t k h. omega (arith, h) }

@@ -1,5 +1,5 @@
 -- Ticks and offsets: facts of small numbers, by one computed test each.
-use Rattle.std.proofs.Common.{◌≡◌, ℕ, zero, suc, ◌+◌, ◌*◌, ◌%◌, ◌^◌, ◌<◌, Bool, true, false, cond, not, ◌&&◌, ◌||◌, eqb, ltb, ◌≢◌, get_or, set, Some, None, sym, refl, ap, ◌∙◌, subst, ap₂, inl, inr, add-one, arith, length-set}
+use Rattle.std.proofs.Common.{◌≡◌, ℕ, zero, suc, ◌+◌, ◌*◌, ◌%◌, ◌^◌, ◌<◌, Bool, true, false, cond, not, ◌&&◌, ◌||◌, eqb, ltb, ◌≢◌, get_or, set, Some, None, sym, refl, ap, ◌∙◌, subst, ap₂, inl, inr, add-one, arith, length-set, count_ones}
 use lib.Bits.{bit_or}
 use lib.Count.{ones, ones_in}
 use Rattle.std.proofs.lemmas.Nat.{one_shl, div-mul-add, mod-mul-add}
@@ -59,12 +59,15 @@ within first step hf hs = ltb-true (offset_at first step) 8 (below_both (λ a b.
 pub undone : (first p : ℕ) → first < 8 → p < 8 → offset_at first (offset_at first p) ≡ p
 undone first p hf hp = eqb-true (offset_at first (offset_at first p)) p (below_both (λ a b. eqb (offset_at a (offset_at a b)) b) 8 8 refl first p hf hp)
 
+in_order : (first step : ℕ) → first < 8 → step < 8 → offset_at first step ≡ turned first step
+in_order first step hf hs = eqb-true (offset_at first step) (turned first step) (below_both (λ a b. eqb (offset_at a b) (turned a b)) 8 8 refl first step hf hs)
+
 pub each_offset_once : FillFetchesEachWordOnce
 each_offset_once = record {
   within = within;
   reached = λ first p hf hp. (offset_at first p, within first p hf hp, undone first p hf hp);
   once = λ first j k hf hj hk e. sym (undone first j hf hj) ∙ ap (λ (x : ℕ). offset_at first x) e ∙ undone first k hf hk;
-  order = λ first step hf hs. eqb-true (offset_at first step) (turned first step) (below_both (λ a b. eqb (offset_at a b) (turned a b)) 8 8 refl first step hf hs);
+  order = λ b hf hs. ap (λ (o : ℕ). b.line * 8 + o) (in_order b.first (count_ones b.ticks) hf hs);
 }
 
 -- k steps tick k offsets

@@ -1,11 +1,11 @@
--- What holds of the tables whatever was done to them.
+-- What holds of a directory and of a fill, and of what is done to them.
 use Rattle.std.specs.Prelude.{◌≡◌, ℕ, zero, suc, ◌+◌, ◌*◌, ◌/◌, ◌%◌, ◌^◌, ◌<◌, ◌≤◌, true, false, cond, ◌≢◌, List, [], ◌∷◌, find, is_some, Some, None, Option, ◌==◌, nat_lt, count_ones}
 use Rattle.directory.specs.declared.lru.LruBits.{LruBits}
 use Rattle.directory.specs.declared.lru.WayNumber.{WayNumber}
 use Rattle.directory.specs.declared.sets.Way.{Way}
 use Rattle.directory.specs.declared.fills.Fill.{Fill}
 use Rattle.directory.specs.Touch.{index_of, same_way, touched_bits, victim_of}
-use Rattle.directory.specs.Dirs.{Dir, set_of, emptied, put, holds, found, twins, valid_ways}
+use Rattle.directory.specs.Dirs.{Dir, set_of, tag_of, emptied, put, holds, found, twins, valid_ways}
 use Rattle.directory.specs.Ticks.{ticked, tick, offset_at, next_word, fetched_word}
 
 -- The way just touched is never the next victim.
@@ -36,6 +36,11 @@ pub record WayIsTouched (before after : Dir) (line : ℕ) (k : WayNumber) : Type
   pub lru : TouchSetsItsPair (before.lru (set_of line)) (after.lru (set_of line)) k
   pub others : (i : ℕ) → i ≢ set_of line → after.lru i ≡ before.lru i
 
+-- Line 256 t + k is of set k, and t is its tag.
+pub record LinesAreDealtToSets : Type 0 where
+  pub set : (t k : ℕ) → k < 256 → set_of (256 * t + k) ≡ k
+  pub tag : (t k : ℕ) → k < 256 → tag_of (256 * t + k) ≡ t
+
 -- No two valid ways of a set have the same tag.
 abbrev pub TagsAreApart : Dir → Type 0
 TagsAreApart d = (i : ℕ) (j k : WayNumber) → twins d i j k ≡ false
@@ -52,8 +57,8 @@ pub record OnlyBitsOfOneSet (before after : Dir) (i : ℕ) : Type 0 where
   pub ways : after.way ≡ before.way
   pub others : (j : ℕ) → j ≢ i → after.lru j ≡ before.lru j
 
--- A line just installed is found in its way, which is touched, and every other line that was found and not replaced is found where it was.
--- The one replaced is found no more, and no other line has come.
+-- A line just installed is found in its way, which is touched, and every other line that was found and not displaced is found where it was.
+-- The one displaced is found no more, and no other line has come.
 pub record InstallKeepsOtherLines (before after : Dir) (line : ℕ) (k : WayNumber) : Type 0 where
   pub new : found after line ≡ Some k
   pub touch : WayIsTouched before after line k
@@ -71,11 +76,11 @@ pub record DropForgetsOneLine (before after : Dir) (line : ℕ) : Type 0 where
 abbrev pub ChangeMovesNoLine : Dir → Dir → Type 0
 ChangeMovesNoLine before after = (line : ℕ) → found after line ≡ found before line
 
--- How many valid ways something that stands in a way is.
+-- 1 for a way that holds something, else 0.
 abbrev pub as_one : Option Way → ℕ
 as_one o = cond (is_some o) 1 0
 
--- An empty directory has no valid way, and what comes into a way is counted in the place of what was there.
+-- An empty directory has no valid way, and what comes into a way counts instead of what was there.
 pub record EachValidWayCounts : Type 0 where
   pub none : valid_ways emptied ≡ 0
   pub one : (d : Dir) (i : ℕ) (k : WayNumber) (w : Option Way) → i < 256 → valid_ways (put d i k w) + as_one (d.way i k) ≡ valid_ways d + as_one w
@@ -84,13 +89,13 @@ pub record EachValidWayCounts : Type 0 where
 abbrev pub turned : ℕ → ℕ → ℕ
 turned first step = (first + step) % 2 + (first / 2 + step / 2) % 2 * 2 + (first / 4 + step / 4) % 2 * 4
 
--- The eight steps of a fill visit each offset of the line, and none twice, whatever the first; and in this order: its neighbour next, then the other pair of its half line,
+-- The eight steps visit each offset of the line, and none twice, whatever the first. A fill goes in this order: its first word's neighbour next, then the other pair of its half line,
 -- then the other half alike.
 pub record FillFetchesEachWordOnce : Type 0 where
   pub within : (first step : ℕ) → first < 8 → step < 8 → offset_at first step < 8
   pub reached : (first offset : ℕ) → first < 8 → offset < 8 → (step : ℕ) × (step < 8) × (offset_at first step ≡ offset)
   pub once : (first j k : ℕ) → first < 8 → j < 8 → k < 8 → offset_at first j ≡ offset_at first k → j ≡ k
-  pub order : (first step : ℕ) → first < 8 → step < 8 → offset_at first step ≡ turned first step
+  pub order : (b : Fill) → b.first < 8 → count_ones b.ticks < 8 → next_word b ≡ b.line * 8 + turned b.first (count_ones b.ticks)
 
 -- Ticking a new offset adds one.
 abbrev pub NewTickAddsOne : Type 0

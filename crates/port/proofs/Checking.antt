@@ -5,7 +5,7 @@ use Rattle.std.specs.Result.{result_and}
 use Rattle.fault.specs.declared.Fault.{Fault}
 use Rattle.port.specs.Memory.{Memory, Facts, seen}
 use Rattle.port.specs.Meaning.{laned, told, past_end, bad_lanes, unreadable, ByAnswer}
-use Rattle.port.specs.Laws.{RefusedInOrder, CountsStop, LanesReplaceBytes, StagesShowThePortBelow}
+use Rattle.port.specs.Laws.{RefusedInOrder, CountsStop, LanesReplaceBytes, StagesShowThePortBelow, EachCallCounts}
 
 abbrev pub Answer : Type 0
 Answer = Result (Unit {0}) Fault
@@ -67,4 +67,17 @@ pub lanes_replace_bytes : LanesReplaceBytes
 lanes_replace_bytes = record { low = λ h l g k a b. omega arith; high = λ h l g k a b. omega arith; both = λ h l g k a b. omega arith }
 
 pub stages_show_the_port_below : StagesShowThePortBelow
-stages_show_the_port_below = record { words = λ s. refl; floor = λ s h. omega arith; cacheable = λ s. refl; protected = λ s. refl; settled = λ s. refl; waiting = λ s. refl }
+stages_show_the_port_below = record { words = λ s. refl; floor = λ s h. omega arith; top = λ s h. omega arith; cacheable = λ s. refl; protected = λ s. refl; settled = λ s. refl; waiting = λ s. refl }
+
+pub each_call_counts : EachCallCounts
+each_call_counts = record {
+  a_read = λ w r. (refl, refl);
+  a_write = λ w. (refl, refl);
+  a_refused_write = λ w fault. (refl, refl);
+  an_advance = λ ds. (refl, refl);
+  an_outside_write = λ w. (refl, refl);
+  a_snoop = λ w. (refl, refl);
+  a_flush = (refl, refl);
+  a_write_of_any_answer = λ w r. (refl, refl);
+  a_snoop_of_any_answer = λ w r. (refl, refl);
+}

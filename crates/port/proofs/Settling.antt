@@ -65,7 +65,7 @@ marks_and_flags_stay = record {
     ap (λ (x : State). x.protected) a.after,
     ap (λ (x : State). x.settled.readable) a.after ∙ applied_readable s.protected a.gone s.settled,
   );
-  passing = λ s w. (refl, refl, refl);
+  from_outside = λ s w. (refl, refl, refl);
 }
 
 -- where nothing waits, a write that is stored at once has joined and settled

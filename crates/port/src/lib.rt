@@ -7,7 +7,7 @@ ghost use Rattle.port.specs.Memory.{State, WholeLines, seen, posted, drained, ou
 ghost use Rattle.port.specs.Meaning.{within, writable, read_answer, settled_answer, write_answer, snoop_answer, marks_answer, waiting_answer, Settles, Advances, ByAnswer, Kept};
 ghost use Rattle.port.specs.Checks.{InRange, Writable};
 ghost use Rattle.port.specs.Steps.{Step, reads, writes, advances, outsides, snoops, flushes, Drains, Through};
-ghost use Rattle.port.specs.Laws.{SettlingIsNeverSeen, RefusedInOrder, CountsStop, LanesReplaceBytes, StagesShowThePortBelow, MarksAndFlagsStay};
+ghost use Rattle.port.specs.Laws.{SettlingIsNeverSeen, RefusedInOrder, CountsStop, LanesReplaceBytes, StagesShowThePortBelow, MarksAndFlagsStay, EachCallCounts};
 
 use fault::{Fault, Refusal};
 
@@ -186,12 +186,13 @@ pub fn settle_all<P: Port>(port: &mut P)
 }
 
 /// A write that has settled, with all that waited before it, when the call returns.
-#[tactic(auto, using(crate::proofs::Settling::marks_and_flags_stay))]
+#[tactic(auto, using(crate::proofs::Settling::marks_and_flags_stay, crate::proofs::Checking::each_call_counts))]
 pub fn write_through<P: Port>(port: &mut P, write: Store) -> Result<(), Fault>
     ensures value { result ≡ write_answer (P.state port.old) write }
     ensures after { ByAnswer result (P.state port.new ≡ drained (posted (write ∷ []) (P.state port.old))) (port.new ≡ port.old) }
     ensures did { Through P.state P.does write result port.old port.new }
     ensures law { MarksAndFlagsStay }
+    ensures counts { EachCallCounts }
 {
     port.write(write)?;
     settle_all(port);

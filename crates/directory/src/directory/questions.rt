@@ -5,7 +5,7 @@ ghost use Rattle.port.specs.Memory.{line_of, offset_of};
 ghost use Rattle.directory.specs.Touch.{victim_of};
 ghost use Rattle.directory.specs.Dirs.{found, set_of, valid_ways};
 ghost use Rattle.directory.specs.View.{view, inspected, TellsWhatStands};
-ghost use Rattle.directory.specs.Laws.{OneWayHoldsALine, EachValidWayCounts};
+ghost use Rattle.directory.specs.Laws.{OneWayHoldsALine, LinesAreDealtToSets, EachValidWayCounts};
 
 use super::{Directory, SETS, set_of, tag_of};
 use crate::lru::{LruBits, WayNumber};
@@ -23,9 +23,11 @@ pub struct WayState {
 
 impl Directory {
     /// The valid way that holds the line.
+    #[tactic(auto, using(crate::proofs::Apart::lines_are_dealt))]
     pub fn lookup(&self, line: u32) -> Option<WayNumber>
         ensures value { result ≡ found (view self.now) line }
         ensures law { OneWayHoldsALine (view self.now) }
+        ensures sets { LinesAreDealtToSets }
     {
         self.sets[set_of(line)].find(tag_of(line))
     }
