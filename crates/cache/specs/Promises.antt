@@ -1,15 +1,15 @@
 -- What each call does to a cache, and what it asks of the port below.
-use Rattle.std.specs.Prelude.{◌≡◌, ℕ, ◌<◌, [], ◌∷◌, Ok, Result}
+use Rattle.std.specs.Prelude.{◌≡◌, ℕ, ◌<◌, List, [], ◌∷◌, Ok, Result}
 use Rattle.fault.specs.declared.Fault.{Fault}
 use Rattle.port.specs.declared.Port.{Ghosts}
 use Rattle.port.specs.declared.Store.{Store}
 use Rattle.port.specs.Memory.{State, seen, line_of}
-use Rattle.port.specs.Steps.{reads, writes, advances, outsides, snoops, flushes}
+use Rattle.port.specs.Steps.{Step, reads, writes, advances, outsides, snoops, flushes, Chain}
 use Rattle.cache.specs.declared.cache.Cache.{Cache}
 use Rattle.cache_tables.specs.Showing.{Shown}
-use Rattle.cache_tables.specs.Rules.{Model, Turn}
+use Rattle.cache_tables.specs.Rules.{Model, Turn, turn}
 use Rattle.cache_tables.specs.Laws.{NotFetched, HolderIsSpared, HitTouches, MissFills, WriteLandsOrTouches, AdvanceFetchesOne, LineIsGone, AllIsForgotten}
-use Rattle.cache.specs.Doing.{tables_of, TakesTurn, Does}
+use Rattle.cache.specs.Doing.{tables_of, Does}
 
 -- What a port shows, in its own terms and not by the definition that the rules go by.
 abbrev pub port_shows : State → Shown
@@ -19,12 +19,12 @@ module _ {P : Type 0} (G : Ghosts P) where
   abbrev pub below_of : Cache P G → Shown
   below_of b = port_shows (G.state b.below)
 
-  -- A call takes a turn of which this is so.
+  -- The port below gets some calls, and this holds of them and of the tables after the call.
   abbrev pub TakesTurnWith : (Turn → Type 0) → Cache P G → Cache P G → Type 0
-  TakesTurnWith so b c = (u : Turn) × TakesTurn u b c × so u
+  TakesTurnWith so b c = (calls : List Step) × Chain G.does b.below calls c.below × so (turn (tables_of c) calls)
 
-  -- This is so of each read of a word in range, of each accepted write, of each advance: of what the port below shows, of the tables before the
-  -- call, and of its turn.
+  -- This holds of each read of a word in range, each accepted write and each advance: of what the port below shows, the tables before the call,
+  -- and its turn.
   abbrev pub EachRead : (Shown → Model → ℕ → Turn → Type 0) → Type 0
   EachRead so = (b c : Cache P G) (w : ℕ) (r : Result ℕ Fault) → Does b (reads w r) c → w < (G.state b.below).facts.words → TakesTurnWith (so (below_of b) (tables_of b) w) b c
 
@@ -34,15 +34,17 @@ module _ {P : Type 0} (G : Ghosts P) where
   abbrev pub EachAdvance : (Shown → Model → Turn → Type 0) → Type 0
   EachAdvance so = (b c : Cache P G) → Does b advances c → TakesTurnWith (so (below_of b) (tables_of b)) b c
 
-  -- A word from the line buffer changes nothing, and a word from a way only touches that way.
+  -- A word from the line buffer changes nothing, and a word from a way only touches that way; if no way held its line at first, the fill under
+  -- way is finished before.
   abbrev pub HitsOnlyTouch : Type 0
   HitsOnlyTouch = EachRead HitTouches
 
-  -- A word that neither answers is asked for once; where it can be read and its line may be cached it begins a fill, and else nothing does.
+  -- A word that neither answers is asked for once; where it can be read and its line may be cached it begins a fill, and else none begins.
   abbrev pub MissesBeginFills : Type 0
   MissesBeginFills = EachRead MissFills
 
-  -- A write to an open line under fill finishes that line and stands in it; any other only touches the way that holds its line.
+  -- A write to an open line under fill finishes that line and stands in it, if all of it can be read; any other moves no line, and touches the way
+  -- that holds its own.
   abbrev pub WritesLandOrOnlyTouch : Type 0
   WritesLandOrOnlyTouch = EachWrite WriteLandsOrTouches
 
@@ -50,7 +52,7 @@ module _ {P : Type 0} (G : Ghosts P) where
   abbrev pub AdvancesFetchOneWord : Type 0
   AdvancesFetchOneWord = EachAdvance AdvanceFetchesOne
 
-  -- A read that the line buffer does not answer touches the way that holds the line, and so does a write.
+  -- After a read that the line buffer does not answer, and after a write, the way that holds the line is not the next victim of its set.
   pub record UsedWaysAreSpared : Type 0 where
     pub reads : EachRead (λ v t w u. NotFetched t w → HolderIsSpared u.tables w)
     pub writes : EachWrite (λ v t w u. HolderIsSpared u.tables w.word)

@@ -44,7 +44,7 @@ finishes v (suc n) d (Some b) c h =
 
 pub gone : (v : Shown) (t : Model) (line : ℕ) → Coherent v t → LineIsGone t (dropped t line) line
 gone v t line c = record {
-  buffer = left_some line t.fill;
+  none_begins = left_some line t.fill;
   goes_on = λ b e n. ap (left_of line) e ∙ cond-false (eqb b.line line) None (Some b) (ne_eqb b.line line n);
   way = (drop_forgets t.dir line c.apart).gone;
   others = (drop_forgets t.dir line c.apart).others;

@@ -202,11 +202,11 @@ module _ (v : Shown) (t : Model) (w : ℕ) where
           | inr y ↦ absurd (nothing_fetched w m p a x (sym (adds.others a (λ z. y (z ∙ at))) ∙ e))
         ];
         way = refl;
-        lines = ap (λ (u : Model). u.dir) same;
+        dir = ap (λ (u : Model). u.dir) same;
       }
 
   pub miss_fills : Coherent v t → w < v.words → MissFills v t w (read_turn v t w)
-  miss_fills c inside = record { asks = misses_ask_once c; else_nothing = misses_else_nothing; fills = misses_fill c inside }
+  miss_fills c inside = record { asks = misses_ask_once c; no_fill = misses_else_nothing; fills = misses_fill c inside }
 
 -- ---- a fill is finished
 
@@ -414,4 +414,4 @@ advances_else_nothing v t e = (
 )
 
 pub advance_fetches_one : (v : Shown) (t : Model) → Coherent v t → AdvanceFetchesOne v t (advance_turn v t)
-advance_fetches_one v t c = record { one = λ b. advances_fetch_one v t.dir t.fill b c; else_nothing = advances_else_nothing v t }
+advance_fetches_one v t c = record { one = λ b. advances_fetch_one v t.dir t.fill b c; passed_on = advances_else_nothing v t }

@@ -7,7 +7,7 @@ use Rattle.port.specs.Meaning.{Settles}
 use Rattle.port.specs.Steps.{Step, reads, writes, advances}
 use Rattle.directory.specs.declared.lru.WayNumber.{WayNumber}
 use Rattle.directory.specs.declared.fills.Fill.{Fill}
-use Rattle.directory.specs.Touch.{untouched, victim_of}
+use Rattle.directory.specs.Touch.{victim_of}
 use Rattle.directory.specs.Dirs.{Dir, set_of, found}
 use Rattle.directory.specs.Ticks.{next_word, fetched_word}
 use Rattle.directory.specs.Laws.{WayIsTouched, InstallKeepsOtherLines, StoreAddsItsWord}
@@ -15,7 +15,7 @@ use Rattle.cache_tables.specs.Showing.{Shown, shown, reading, whole}
 use Rattle.cache_tables.specs.Rules.{Model, Turn, idle, fetched, finished, lacking, buffered_of, hit, begun}
 use Rattle.cache_tables.specs.Coherence.{Sees, Coherent}
 
--- How much has settled below shows nowhere in the rules.
+-- How much has settled below makes no difference to the rules.
 abbrev pub SettlingNeverShows : Type 0
 SettlingNeverShows = (s t : State) → Settles s t → shown t ≡ shown s
 
@@ -30,7 +30,7 @@ pub record NamedAtTheMiss (v : Shown) (d : Dir) (w : ℕ) (b : Fill) : Type 0 wh
   pub line : b.line ≡ line_of w
   pub way : b.way ≡ victim_of (d.lru (set_of (line_of w)))
 
--- It goes on with that line, in its order and for that way, whatever the LRU bits have become.
+-- A fill goes on with its line, its first word, its way and its protect flag, whatever the LRU bits have become.
 pub record GoesOn (b c : Fill) : Type 0 where
   pub line : c.line ≡ b.line
   pub first : c.first ≡ b.first
@@ -42,8 +42,8 @@ abbrev pub fetched_times : ℕ → Shown → Model → Model
 fetched_times zero v t = t
 fetched_times (suc n) v t = fetched_times n v (fetched v t)
 
--- A completed line is in the way that was named at its miss: once its last word has come, and where its fill is finished at once. No other
--- line moves, but for the one displaced; and none does where the fill is abandoned.
+-- Once the last word of a fill has come, its line is in the way named at its miss. So it is where the fill is finished at once: then no other line
+-- moves but for the one displaced, and none does where a word cannot be read. Either way no fill is left.
 pub record LandsWhereNamed (v : Shown) (t : Model) (b : Fill) : Type 0 where
   pub word_by_word : v.readable (next_word b) ≡ true → (fetched v t).fill ≡ None → found (fetched v t).dir b.line ≡ Some b.way
   pub at_once : whole v b.line ≡ true → InstallKeepsOtherLines t.dir (finished v t).dir b.line b.way
@@ -71,11 +71,11 @@ pub record ReadsWhatLacks (v : Shown) (t : Model) (calls : List Step) : Type 0 w
 abbrev pub HolderIsSpared : Model → ℕ → Type 0
 HolderIsSpared t w = (k : WayNumber) → found t.dir (line_of w) ≡ Some k → victim_of (t.dir.lru (set_of (line_of w))) ≢ k
 
--- Below, the port shows v, the tables are t before a call, and u is what the call makes of them, and the calls that it makes on the port.
+-- From here on v is what the port below shows, t the tables before a call, and u its turn: the tables after it, and its calls on the port.
 
 -- A READ
 
--- A word that the line buffer has fetched is answered with everything left as it was, and nothing asked below.
+-- A read of a word that has been fetched leaves everything as it was, and asks nothing below.
 pub record ReadLeavesAll (t : Model) (u : Turn) : Type 0 where
   pub tables : u.tables ≡ t
   pub calls : u.calls ≡ []
@@ -87,19 +87,20 @@ pub record ReadOnlyTouches (t : Model) (w : ℕ) (k : WayNumber) (u : Turn) : Ty
   pub fill : u.tables.fill ≡ t.fill
   pub calls : u.calls ≡ []
 
--- Once the fill under way was finished, a way answers and is touched.
+-- Once the fill under way has been finished, a way answers and is touched.
 pub record LateHitTouches (v : Shown) (t : Model) (w : ℕ) (k : WayNumber) (u : Turn) : Type 0 where
   pub touch : WayIsTouched (finished v t).dir u.tables.dir (line_of w) k
   pub ways : u.tables.dir.way ≡ (finished v t).dir.way
   pub fill : u.tables.fill ≡ None
   pub calls : ReadsWhatLacks v t u.calls
 
+-- What a read does that the line buffer or a way answers.
 pub record HitTouches (v : Shown) (t : Model) (w : ℕ) (u : Turn) : Type 0 where
   pub buffered : Fetched t w → ReadLeavesAll t u
   pub held : (k : WayNumber) → NotFetched t w → found t.dir (line_of w) ≡ Some k → ReadOnlyTouches t w k u
   pub late : (k : WayNumber) → NotFetched t w → found t.dir (line_of w) ≡ None → found (finished v t).dir (line_of w) ≡ Some k → LateHitTouches v t w k u
 
--- Neither the line buffer nor a way answers, not even once the fill under way was finished.
+-- Neither the line buffer nor a way answers, not even once the fill under way has been finished.
 pub record NothingAnswers (v : Shown) (t : Model) (w : ℕ) : Type 0 where
   pub buffer : NotFetched t w
   pub way : found t.dir (line_of w) ≡ None
@@ -111,27 +112,30 @@ pub record AsksForTheWord (v : Shown) (t : Model) (w : ℕ) (u : Turn) : Type 0 
   pub finishing : ReadsWhatLacks v t first
   pub calls : u.calls ≡ first ++ (reads w (reading v w) ∷ [])
 
--- The word is then the first of a new fill, and the only one yet, for the way that the LRU bits name at this moment.
+-- The word is then the first of a new fill, and the only one yet, for the way that the LRU bits name at this moment. The directory is as the
+-- finished fill left it.
 pub record FillBegins (v : Shown) (t : Model) (w : ℕ) (u : Turn) : Type 0 where
   pub fill : Fill
   pub under : u.tables.fill ≡ Some fill
   pub word : fetched_word fill w ≡ Some (v.word w)
   pub alone : (a x : ℕ) → fetched_word fill a ≡ Some x → a ≡ w
   pub way : fill.way ≡ victim_of ((finished v t).dir.lru (set_of (line_of w)))
-  pub lines : u.tables.dir ≡ (finished v t).dir
+  pub dir : u.tables.dir ≡ (finished v t).dir
 
+-- What a read does that neither answers.
 pub record MissFills (v : Shown) (t : Model) (w : ℕ) (u : Turn) : Type 0 where
   pub asks : NothingAnswers v t w → AsksForTheWord v t w u
-  pub else_nothing : NothingAnswers v t w → (v.readable w ≡ true → v.cacheable (line_of w) ≡ false) → u.tables ≡ finished v t
+  pub no_fill : NothingAnswers v t w → (v.readable w ≡ true → v.cacheable (line_of w) ≡ false) → u.tables ≡ finished v t
   pub fills : NothingAnswers v t w → v.readable w ≡ true → v.cacheable (line_of w) ≡ true → FillBegins v t w u
 
 -- A WRITE that is accepted
 
--- No fill is under way of a line that is open to writes.
+-- No fill of this line is under way, unless the line is protected.
 abbrev pub NoneOpen : Shown → Model → ℕ → Type 0
 NoneOpen v t line = (b : Fill) → t.fill ≡ Some b → b.line ≡ line → v.protected line ≡ true
 
 -- A write then leaves the fill under way alone and moves no line. The way that holds its line is touched; where none does, nothing changes.
+-- (What that way then answers is what is seen, as of every way.)
 pub record WriteOnlyTouches (t : Model) (w : Store) (u : Turn) : Type 0 where
   pub fill : u.tables.fill ≡ t.fill
   pub lines : (line : ℕ) → found u.tables.dir line ≡ found t.dir line
@@ -152,31 +156,32 @@ pub record WriteLandsTheLine (v : Shown) (t : Model) (w : Store) (b : Fill) (u :
   pub finishing : ReadsWhatLacks v t first
   pub calls : u.calls ≡ first ++ (writes w (Ok tt) ∷ [])
 
+-- What a write does.
 pub record WriteLandsOrTouches (v : Shown) (t : Model) (w : Store) (u : Turn) : Type 0 where
   pub only_touch : NoneOpen v t (line_of w.word) → WriteOnlyTouches t w u
   pub land : (b : Fill) → t.fill ≡ Some b → b.line ≡ line_of w.word → v.protected b.line ≡ false → WriteLandsTheLine v t w b u
 
 -- AN ADVANCE
 
--- One word of a fill is fetched, before the advance is passed on. If it can be read it is there from now on, and of the others those that
--- were, or it was the last: then the line goes into the way named at its miss, and no other line moves. If not, the fill ends without a trace.
+-- One word of a fill is fetched, before the advance is passed on. If it can be read it is there from now on beside those that were, and
+-- the fill goes on; or it was the last, and the line goes into the way named at its miss. If it cannot be read, the fill ends without a trace.
 pub record OneWordComes (v : Shown) (t : Model) (b : Fill) (u : Turn) : Type 0 where
   pub calls : u.calls ≡ reads (next_word b) (reading v (next_word b)) ∷ advances ∷ []
   pub more : (c : Fill) → u.tables.fill ≡ Some c → StoreAddsItsWord b c (v.word (next_word b)) × GoesOn b c × (u.tables.dir ≡ t.dir)
   pub last : v.readable (next_word b) ≡ true → u.tables.fill ≡ None → InstallKeepsOtherLines t.dir u.tables.dir b.line b.way
   pub torn : v.readable (next_word b) ≡ false → (u.tables.fill ≡ None) × (u.tables.dir ≡ t.dir)
 
--- Where no fill is under way, an advance is only passed on.
+-- What an advance does: where no fill is under way, it is only passed on.
 pub record AdvanceFetchesOne (v : Shown) (t : Model) (u : Turn) : Type 0 where
   pub one : (b : Fill) → t.fill ≡ Some b → OneWordComes v t b u
-  pub else_nothing : t.fill ≡ None → (u.tables ≡ t) × (u.calls ≡ advances ∷ [])
+  pub passed_on : t.fill ≡ None → (u.tables ≡ t) × (u.calls ≡ advances ∷ [])
 
 -- WHAT IS FORGOTTEN
 
--- A line that was dropped is under no fill and in no way; the other lines are where they were, and so are the LRU bits. A fill of another line
+-- A line that was dropped is under no fill and in no way; the other lines are where they were, and the LRU bits stay. A fill of another line
 -- goes on, and none begins.
 pub record LineIsGone (before after : Model) (line : ℕ) : Type 0 where
-  pub buffer : (b : Fill) → after.fill ≡ Some b → (before.fill ≡ Some b) × (b.line ≢ line)
+  pub none_begins : (b : Fill) → after.fill ≡ Some b → (before.fill ≡ Some b) × (b.line ≢ line)
   pub goes_on : (b : Fill) → before.fill ≡ Some b → b.line ≢ line → after.fill ≡ Some b
   pub way : found after.dir line ≡ None
   pub others : (other : ℕ) → other ≢ line → found after.dir other ≡ found before.dir other
@@ -185,7 +190,7 @@ pub record LineIsGone (before after : Model) (line : ℕ) : Type 0 where
 -- No line is in any way, no LRU bit is set, and no fill is under way.
 pub record AllIsForgotten (t : Model) : Type 0 where
   pub lines : (line : ℕ) → found t.dir line ≡ None
-  pub lru : (i : ℕ) → t.dir.lru i ≡ untouched
+  pub lru : (i : ℕ) → t.dir.lru i ≡ record { m0 = false; m1 = false; m2 = false }
   pub fill : t.fill ≡ None
 
 -- WHATEVER THE CALL
