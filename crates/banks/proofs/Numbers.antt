@@ -37,14 +37,21 @@ each_record = record {
   cacheable = λ lines k. refl;
   protected = λ lines k. refl;
   all = λ lines h k. (unfit_sizes.fit (length lines) h k).1;
-  lowest = λ lines. refl;
+  none = λ lines h. (unfit_sizes.unfit (length lines) h).1;
+  on_floor_0 = λ lines. refl;
 }
+
+no_words : (n : ℕ) → (n ≡ 0) ⊎ (1048576 * 16 < n) → words_of_lines (lines_of_bytes n) ≡ 0
+no_words n (inl e) = ap (λ (m : ℕ). words_of_lines (lines_of_bytes m)) e
+no_words n (inr h) = grind (arith, nat_tests)
 
 pub sixteen_bytes : SixteenBytesAreALine
 sixteen_bytes = record {
   all = λ bytes lines e h k. ap (λ (n : ℕ). words_of_lines (lines_of_bytes n)) e ∙ ap words_of_lines (unfit_sizes.even lines) ∙ (unfit_sizes.fit lines h k).1;
+  none = λ bytes h. no_words (length bytes) h;
+  left_over = λ bytes lines over e h k. ap (λ (n : ℕ). words_of_lines (lines_of_bytes n)) e ∙ ap words_of_lines (unfit_sizes.odd lines over h k);
   cacheable = λ bytes k. refl;
   protected = λ bytes k. refl;
   readable = λ bytes a. refl;
-  lowest = λ bytes. refl;
+  on_floor_0 = λ bytes. refl;
 }

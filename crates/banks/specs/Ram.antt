@@ -1,5 +1,5 @@
 -- A RAM bank as a port: its records are its settled memory, and nothing ever waits.
-use Rattle.std.specs.Prelude.{◌≡◌, ℕ, ◌+◌, ◌*◌, ◌<◌, ◌≤◌, false, List, [], length, Ok, Err, Result, slice_index, slice_index_or}
+use Rattle.std.specs.Prelude.{◌≡◌, ◌⊎◌, ℕ, ◌+◌, ◌*◌, ◌<◌, ◌≤◌, false, List, [], length, Ok, Err, Result, slice_index, slice_index_or}
 use Rattle.fault.specs.declared.Fault.{Fault}
 use Rattle.port.specs.declared.Store.{Store}
 use Rattle.port.specs.Memory.{State}
@@ -17,14 +17,16 @@ ram_state lines = record {
   waiting = [];
 }
 
--- Each record is a line of eight words, in their order, with its own marks and flags. All of them are there, on the lowest floor.
+-- Each record is a line of eight words, in their order, with its own marks and flags. From 1 to 1,048,576 records all are there, and of
+-- any other number none; the bank stands on floor 0.
 pub record EachRecordIsALine : Type 0 where
   pub word : (lines : List Line) (k offset : ℕ) → offset < 8 → (ram_state lines).settled.word (k * 8 + offset) ≡ slice_index (line_at lines k).words offset
   pub readable : (lines : List Line) (k offset : ℕ) → offset < 8 → (ram_state lines).settled.readable (k * 8 + offset) ≡ slice_index_or (line_at lines k).readable offset false
   pub cacheable : (lines : List Line) (k : ℕ) → (ram_state lines).facts.cacheable k ≡ (line_at lines k).cacheable
   pub protected : (lines : List Line) (k : ℕ) → (ram_state lines).protected k ≡ (line_at lines k).protect
   pub all : (lines : List Line) → 1 ≤ length lines → length lines ≤ 1048576 → (ram_state lines).facts.words ≡ length lines * 8
-  pub lowest : (lines : List Line) → (ram_state lines).facts.floor ≡ 0
+  pub none : (lines : List Line) → (length lines ≡ 0) ⊎ (1048576 < length lines) → (ram_state lines).facts.words ≡ 0
+  pub on_floor_0 : (lines : List Line) → (ram_state lines).facts.floor ≡ 0
 
 -- The records are then those; they are still the caller's.
 pub record Holds (b : RamBank) (lines : List Line) (c : RamBank) : Type 0 where

@@ -22,9 +22,9 @@ use Rattle.book.specs.declared.answer.Answer.{Answer}
 use Rattle.book.specs.declared.answer.Answer.TheVariants.{Done, Word}
 use Rattle.book.specs.Tables.{Takers, every, unlocked, free, locked, granted, stopped, place_in, floor_for, fault_of, or_else, in_range, fits, stop, Asks, nothing, drain, advance, flush, read, peek, snoop, write, through, outside, deed, if_taken, goes_to, settles_by, Rule, none}
 use Rattle.book.specs.Book.{Book, refused, waiting_line, step, Admits, Allowed, reading, told_of, says, unless, told, answer}
-use Rattle.book.specs.Calling.{Makes, Reaches}
+use Rattle.book.specs.Calling.{Makes, Reaches, cycle_answer}
 use Rattle.book.specs.Runs.{Moment, moment, after, Follows, Ledger, joining_entries, leads_to, moved, mode_by}
-use Rattle.book.specs.Promise.{in_mode, turned_away, told_at, AnsweredIn, AllIn, AsksThePort, TellsWord, TellsDone, AnswersAsThePort, EachCallAsksThePort, settles_at}
+use Rattle.book.specs.Promise.{in_mode, turned_away, told_at, AnsweredIn, AllIn, AsksThePort, TellsWord, TellsDone, AnswersAsThePort, EachCallAsksThePort, CyclesKeepTheModes, settles_at}
 use Rattle.book.proofs.Records.{Tells, joined_is}
 use Rattle.book.proofs.Locks.{Held}
 
@@ -335,4 +335,12 @@ each_call_asks_the_port G = record {
   turned = λ m n p q c r x h t.
       let F : Option Refusal → Type 0 = λ o. Reaches o (Makes G c p q) (q ≡ p) in
       subst F (sym (turned_is c m) ∙ t) h.made;
+}
+
+pub cycles_keep_the_modes : CyclesKeepTheModes
+cycles_keep_the_modes = record {
+  taken = λ m c floor r t. ap (λ (o : Option Refusal). cycle_answer o floor c r) (sym (turned_is c m) ∙ t);
+  turned = λ m c floor r x t.
+      ap (λ (o : Option Refusal). cycle_answer o floor c r) (sym (turned_is c m) ∙ t)
+      ∙ ap₂ (λ (p f : ℕ). Err (record { refusal = x; place = p; floor = f })) (plain c).place (board_tells floor (deed c).takers m x (sym (turned_is c m) ∙ t));
 }

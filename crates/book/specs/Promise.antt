@@ -15,9 +15,9 @@ use Rattle.book.specs.declared.answer.Mode.{Mode}
 use Rattle.book.specs.declared.answer.Mode.TheVariants.{Free, Locked, Granted}
 use Rattle.book.specs.declared.answer.Answer.{Answer}
 use Rattle.book.specs.declared.answer.Answer.TheVariants.{Done, Word}
-use Rattle.book.specs.Tables.{Rule, none, some, one_or_more, all}
+use Rattle.book.specs.Tables.{stop, Rule, none, some, one_or_more, all}
 use Rattle.book.specs.Book.{Book, book_of, first, step, answer, Allowed, Admits}
-use Rattle.book.specs.Calling.{Called}
+use Rattle.book.specs.Calling.{Called, cycle_answer}
 use Rattle.book.specs.Runs.{Moment, moment, calls_of, answers_of, after, Follows, Entry, ledger, no_entries, joining_entries, mode_by, total, Quiet, locked_writes, NoneUnlocks, all_heard}
 
 -- WHERE A BYTE COMES FROM
@@ -110,7 +110,7 @@ told_at (MasterWrite s) = s.word
 told_at (Snoop w) = w
 told_at other = 0
 
--- On a port of this floor, a call that its mode turns away is refused as said, on the board's floor. Any other is, if at all, for its word or
+-- On a port of this floor, a call that its mode turns away is refused as said, on the board's floor. Any other call is refused, if at all, for its word or
 -- its lanes, on the port's floor, or for a word that cannot be read, on floor 0.
 pub record AnsweredIn (floor : ℕ) (n : Mode) (m : Moment) : Type 0 where
   pub turned : (x : Refusal) → turned_away m.call n ≡ Some x → m.answer ≡ Err (record { refusal = x; place = told_at m.call; floor = floor_above floor })
@@ -130,7 +130,7 @@ AllIn floor n (m ∷ ms) = AnsweredIn floor n m × AllIn floor n ms
 
 -- WHAT THE PORT IS ASKED
 
--- By each call that is taken: calls of its own kind with the answers that the port gives, advances while a write waits, or nothing at all.
+-- What each call that is taken asks: calls of its own kind with the answers that the port gives, advances while a write waits, or nothing at all.
 abbrev pub AsksThePort : {P : Type 0} → Ghosts P → Call → P → P → Type 0
 AsksThePort G (Read w) p q = Chain G.does p (reads w (read_answer (G.state p) w) ∷ []) q
 AsksThePort G (Post s) p q = Chain G.does p (writes s (write_answer (G.state p) s) ∷ []) q
@@ -147,7 +147,8 @@ AsksThePort G Give p q = q ≡ p
 AsksThePort G (Snoop w) p q = Chain G.does p (snoops w (snoop_answer (G.state p) w) ∷ []) q
 AsksThePort G Flush p q = Chain G.does p (flushes ∷ []) q
 
--- What the port tells is answered: its word, or that it is done; and what it refuses comes up as it is.
+-- The board answers what the port tells: its word, or that it is done; a refusal of the port comes up as it is. A call that no port can refuse is
+-- done.
 pub record TellsWord (port : Result ℕ Fault) (r : Result Answer Fault) : Type 0 where
   pub word : (v : ℕ) → port ≡ Ok v → r ≡ Ok (Word v)
   pub refused : (fault : Fault) → port ≡ Err fault → r ≡ Err fault
@@ -167,11 +168,18 @@ AnswersAsThePort s (MasterWrite x) r = TellsDone (write_answer s x) r
 AnswersAsThePort s (Snoop w) r = TellsDone (snoop_answer s w) r
 AnswersAsThePort s other r = r ≡ Ok Done
 
--- A call that the mode turns away asks for nothing.
+-- A call that the mode takes asks the port for its own kind, and is answered as the port answers; one that it turns away leaves the port as it
+-- is.
 pub record EachCallAsksThePort {P : Type 0} (G : Ghosts P) : Type 0 where
   pub taken : (m n : Mode) (p q : P) (c : Call) (r : Result Answer Fault) → Called G m p c r n q → turned_away c m ≡ None → AsksThePort G c p q
   pub answered : (m n : Mode) (p q : P) (c : Call) (r : Result Answer Fault) → Called G m p c r n q → turned_away c m ≡ None → AnswersAsThePort (G.state p) c r
   pub turned : (m n : Mode) (p q : P) (c : Call) (r : Result Answer Fault) (x : Refusal) → Called G m p c r n q → turned_away c m ≡ Some x → q ≡ p
+
+-- A word that is read in a cycle of its own is told where the mode takes the call that opens the cycle; else that call's refusal is told.
+pub record CyclesKeepTheModes : Type 0 where
+  pub taken : (m : Mode) (c : Call) (floor : ℕ) (r : Result ℕ Fault) → turned_away c m ≡ None → cycle_answer (stop m c) floor c r ≡ r
+  pub turned : (m : Mode) (c : Call) (floor : ℕ) (r : Result ℕ Fault) (x : Refusal) → turned_away c m ≡ Some x
+      → cycle_answer (stop m c) floor c r ≡ Err (record { refusal = x; place = told_at c; floor = floor_above floor })
 
 -- UNDER A LOCK, read off the calls and their answers
 

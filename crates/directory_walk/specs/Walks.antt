@@ -19,9 +19,10 @@ set_told d floor set = record {
   ways = inspect_answer d floor set 0 ∷ inspect_answer d floor set 1 ∷ inspect_answer d floor set 2 ∷ inspect_answer d floor set 3 ∷ [];
 }
 
--- All four ways are told, each by its own number.
-abbrev pub EveryWayIsTold : Type 0
-EveryWayIsTold = (d : Dir) (floor set : ℕ) (k : WayNumber) (none : Result WayState Fault) → slice_index_or (set_told d floor set).ways (index_of k) none ≡ inspect_answer d floor set (index_of k)
+-- Of the set that was asked about all four ways are told, each by its own number.
+pub record EveryWayIsTold : Type 0 where
+  pub set : (d : Dir) (floor set : ℕ) → (set_told d floor set).set ≡ set
+  pub ways : (d : Dir) (floor set : ℕ) (k : WayNumber) (none : Result WayState Fault) → slice_index_or (set_told d floor set).ways (index_of k) none ≡ inspect_answer d floor set (index_of k)
 
 abbrev pub told_of : {P : Type 0} {G : Ghosts P} → Cache P G → ℕ → SetTold
 told_of {P} {G} c set = set_told (tables_of c).dir (floor_above (G.state c.below).facts.floor) set

@@ -46,7 +46,8 @@ pub data AdvancesOne {P : Type 0} {G : Ghosts P} (b c : WriteBuffer P G) : Type 
   oldest : (w : Store) → (G.state b.below).waiting ≡ [] → queued b.queue ≡ w ∷ queued c.queue → SendsOn G.state G.does w b.below c.below → AdvancesOne b c
   idle : (G.state b.below).waiting ≡ [] → queued b.queue ≡ [] → c ≡ b → AdvancesOne b c
 
--- A call that the buffer refuses leaves it, its queue and the port below as they were. Of a read that is one past the end: an unreadable word is refused below, and the queue has gone there by then.
+-- A call that the buffer refuses leaves it, its queue and the port below as they were. A refused read leaves all as it was if it is past the end; an unreadable word is
+-- refused below, and the queue has gone there by then.
 abbrev pub Does : {P : Type 0} {G : Ghosts P} → WriteBuffer P G → Step → WriteBuffer P G → Type 0
 Does {P} {G} b (reads w r) c =
     ByAnswer (within w (G.state b.below).facts.words (G.state b.below).facts.floor) (SendsAndReads w r b c) (c ≡ b)
@@ -56,7 +57,7 @@ Does b (outsides w r) c = ByAnswer r (PassesOn (outsides w r) b c) (c ≡ b)
 Does b (snoops w r) c = ByAnswer r (PassesOn (snoops w r) b c) (c ≡ b)
 Does b flushes c = PassesOn flushes b c
 
--- Four at most wait in a queue.
+-- At most four wait in a queue.
 abbrev pub FourAtMostWait : Type 0
 FourAtMostWait = (q : Queue) → length (queued q) ≤ queue_depth
 

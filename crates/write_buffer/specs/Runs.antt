@@ -45,7 +45,7 @@ pub record Below {P : Type 0} {G : Ghosts P} (t : Due) (ds : List Step) (b c : W
   -- the port below is advanced only while a write waits there
   pub busy : idle_advances G.state gets.chain ≡ 0
 
--- However a buffer is called, no write is lost, doubled, overtaken or hurried, and whatever stages have to hear of goes through: at one
+-- However a buffer is called, no write is lost, doubled, overtaken or sent early, and whatever stages have to hear of goes through: at one
 -- call, and over whole runs.
 pub record NothingIsLost {P : Type 0} (G : Ghosts P) : Type 0 where
   pub one : (b c : WriteBuffer P G) (d : Step) → Does b d c → Below (due_by b d) (d ∷ []) b c
