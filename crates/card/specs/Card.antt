@@ -1,7 +1,8 @@
 -- The whole card: RAM on the caller's records and EPROM on the caller's bytes, joined, under the stages and a board.
-use Rattle.std.specs.Prelude.{◌≡◌, ℕ, ◌+◌, ◌*◌, ◌<◌, List, length, Ok, Err, Result}
+use Rattle.std.specs.Prelude.{◌≡◌, ℕ, ◌+◌, ◌*◌, ◌<◌, ◌≤◌, List, length, Ok, Err, Result}
 use Rattle.std.specs.Result.{result_and}
 use Rattle.fault.specs.declared.Fault.{Fault}
+use Rattle.fault.specs.declared.Refusal.TheVariants.{UnfitSize}
 use Rattle.calls.specs.declared.call.Call.{Call}
 use Rattle.calls.specs.Format.{meaning}
 use Rattle.port.specs.declared.Port.{Ghosts}
@@ -27,6 +28,15 @@ use Rattle.card.specs.Stages.{pile_state, pile_floor, RunOnTheStages}
 -- How many words the card has: RAM, EPROM and both together have to be of fit size.
 abbrev pub card_size : ℕ → ℕ → Result ℕ Fault
 card_size lines bytes = result_and (size_of_lines lines) (result_and (size_of_lines (lines_of_bytes bytes)) (size_of_lines (lines + lines_of_bytes bytes)))
+
+-- A card of RAM lines and EPROM bytes has the words of both, if there are whole lines of either, one at least, and together no more than a port
+-- may have. Otherwise it is refused.
+pub record SizesAddUp : Type 0 where
+  pub both : (lines more : ℕ) → 1 ≤ lines → 1 ≤ more → lines + more ≤ 1048576 → card_size lines (more * 16) ≡ Ok ((lines + more) * 8)
+  pub no_ram : (bytes : ℕ) → card_size 0 bytes ≡ Err (record { refusal = UnfitSize; place = 0; floor = 0 })
+  pub no_eprom : (lines : ℕ) → card_size lines 0 ≡ Err (record { refusal = UnfitSize; place = 0; floor = 0 })
+  pub left_over : (lines more over : ℕ) → 1 ≤ over → over < 16 → card_size lines (more * 16 + over) ≡ Err (record { refusal = UnfitSize; place = 0; floor = 0 })
+  pub too_large : (lines more : ℕ) → 1048576 < lines + more → card_size lines (more * 16) ≡ Err (record { refusal = UnfitSize; place = 0; floor = 0 })
 
 -- The calls that are run: those of the list, unless the list is refused, or else the sizes are.
 abbrev pub unless_unfit : Result (List Call) Fault → Result ℕ Fault → Result (List Call) Fault

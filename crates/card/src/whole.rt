@@ -1,7 +1,7 @@
 //! A whole list run on the whole card.
 ghost use Rattle.std.specs.Prelude.{◌≡◌, length, Ok, MatchResult};
 ghost use Rattle.calls.specs.Whole.{Told};
-ghost use Rattle.card.specs.Card.{card_size, calls_to_run, NeverAnOldDigitOnTheCard};
+ghost use Rattle.card.specs.Card.{card_size, SizesAddUp, calls_to_run, NeverAnOldDigitOnTheCard};
 
 use super::stages::{Remains, run_on_stages};
 use banks::{EpromBank, Line, RamBank, eprom_size, joint_size, ram_size};
@@ -33,8 +33,10 @@ pub struct NotRun<'a> {
 }
 
 /// How many words a card of these records and bytes has, or why it cannot be made. Records and bytes are the caller's, and stay two slices.
+#[tactic(auto, using(crate::proofs::Sizes::sizes_add_up))]
 pub fn card_words(lines: &[Line], image: &[u8]) -> Result<u32, Fault>
-    ensures { result ≡ card_size (length lines.now) (length image.now) }
+    ensures value { result ≡ card_size (length lines.now) (length image.now) }
+    ensures law { SizesAddUp }
 {
     let ram = ram_size(lines)?;
     let eprom = eprom_size(image)?;
