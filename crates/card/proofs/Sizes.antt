@@ -1,10 +1,10 @@
 -- What the size of a card comes to.
-use Rattle.std.proofs.Common.{◌≡◌, ℕ, ◌+◌, ◌*◌, ◌<◌, ◌≤◌, Bool, true, false, cond, Ok, Err, Result, refl, ap, ap₂, ◌∙◌, inl, inr, arith}
+use Rattle.std.proofs.Common.{◌≡◌, ℕ, ◌+◌, ◌*◌, Bool, true, false, cond, Ok, Err, Result, refl, ap, ap₂, ◌∙◌, inl, inr, arith}
 use Rattle.std.specs.Result.{result_and}
 use Rattle.fault.specs.declared.Fault.{Fault}
 use Rattle.banks.specs.Sizes.{unfit, fit_lines, size_of_lines, lines_of_bytes}
 use Rattle.banks.proofs.Numbers.{unfit_sizes}
-use Rattle.card.specs.Card.{card_size, SizesAddUp}
+use Rattle.card.specs.Card.{SizesAddUp}
 
 -- what is refused later on is refused, whatever is said first
 later : (fits : Bool) (n : ℕ) (rest : Result ℕ Fault) → rest ≡ Err unfit → result_and (cond fits (Ok n) (Err unfit)) rest ≡ Err unfit
