@@ -7,7 +7,7 @@ ghost use Rattle.port.specs.Meaning.{read_answer, settled_answer, marks_answer, 
 ghost use Rattle.port.specs.Steps.{Drains};
 ghost use Rattle.book.specs.declared.answer.Mode.TheVariants.{Free};
 ghost use Rattle.book.specs.Tables.{stop, place_in};
-ghost use Rattle.book.specs.Promise.{EachCallAsksThePort, CyclesKeepTheModes};
+ghost use Rattle.book.specs.Promise.{EachCallAsksThePort, CycleKeepsTheMode};
 ghost use Rattle.book.specs.Calling.{as_done, as_word, Reaches, Called, cycle_answer};
 
 use book::{Answer, Mode};
@@ -253,13 +253,13 @@ impl<P: Port> Board<P> {
 
     /// The word as the processor sees it, once all that waits has settled. It is read under a lock of its own, which is given back
     /// whatever the read answers; where the board refuses that lock, nothing changes.
-    #[tactic(auto, using(book::proofs::Cycles::lock_settles, book::proofs::Modes::cycles_keep_the_modes))]
+    #[tactic(auto, using(book::proofs::Cycles::lock_settles, book::proofs::Modes::cycle_keeps_the_mode))]
     pub fn locked_cycle(&mut self, word: u32) -> Result<u16, Fault>
         ensures value { result ≡ cycle_answer (stop self.old.mode Locks) (P.state self.old.port).facts.floor Locks (read_answer (P.state self.old.port) word) }
         ensures after { Reaches (stop self.old.mode Locks) (P.state self.new.port ≡ drained (P.state self.old.port)) (self.new.port ≡ self.old.port) }
         ensures did { Reaches (stop self.old.mode Locks) (Drains P.state P.does self.old.port self.new.port) (self.new.port ≡ self.old.port) }
         ensures mode { self.new.mode ≡ self.old.mode }
-        ensures law { CyclesKeepTheModes }
+        ensures law { CycleKeepsTheMode self.old.mode Locks (P.state self.old.port).facts.floor (read_answer (P.state self.old.port) word) result }
     {
         let lock = self.lock()?;
         let value = self.locked_read(&lock, word);
@@ -268,12 +268,12 @@ impl<P: Port> Board<P> {
     }
 
     /// The settled word, read under a grant of its own, which is given back whatever the read answers. The port stays as it is.
-    #[tactic(auto, using(book::proofs::Modes::cycles_keep_the_modes))]
+    #[tactic(auto, using(book::proofs::Modes::cycle_keeps_the_mode))]
     pub fn master_cycle(&mut self, word: u32) -> Result<u16, Fault>
         ensures value { result ≡ cycle_answer (stop self.old.mode Asks) (P.state self.old.port).facts.floor Asks (settled_answer (P.state self.old.port) word) }
         ensures after { self.new.port ≡ self.old.port }
         ensures mode { self.new.mode ≡ self.old.mode }
-        ensures law { CyclesKeepTheModes }
+        ensures law { CycleKeepsTheMode self.old.mode Asks (P.state self.old.port).facts.floor (settled_answer (P.state self.old.port) word) result }
     {
         let grant = self.ask()?;
         let value = self.master_read(&grant, word);

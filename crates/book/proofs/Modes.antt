@@ -24,7 +24,7 @@ use Rattle.book.specs.Tables.{Takers, every, unlocked, free, locked, granted, st
 use Rattle.book.specs.Book.{Book, refused, waiting_line, step, Admits, Allowed, reading, told_of, says, unless, told, answer}
 use Rattle.book.specs.Calling.{Makes, Reaches, cycle_answer}
 use Rattle.book.specs.Runs.{Moment, moment, after, Follows, Ledger, joining_entries, leads_to, moved, mode_by}
-use Rattle.book.specs.Promise.{in_mode, turned_away, told_at, AnsweredIn, AllIn, AsksThePort, TellsWord, TellsDone, AnswersAsThePort, EachCallAsksThePort, CyclesKeepTheModes, settles_at}
+use Rattle.book.specs.Promise.{in_mode, turned_away, told_at, AnsweredIn, AllIn, AsksThePort, TellsWord, TellsDone, AnswersAsThePort, EachCallAsksThePort, CycleKeepsTheMode, settles_at}
 use Rattle.book.proofs.Records.{Tells, joined_is}
 use Rattle.book.proofs.Locks.{Held}
 
@@ -337,10 +337,10 @@ each_call_asks_the_port G = record {
       subst F (sym (turned_is c m) ∙ t) h.made;
 }
 
-pub cycles_keep_the_modes : CyclesKeepTheModes
-cycles_keep_the_modes = record {
-  taken = λ m c floor r t. ap (λ (o : Option Refusal). cycle_answer o floor c r) (sym (turned_is c m) ∙ t);
-  turned = λ m c floor r x t.
-      ap (λ (o : Option Refusal). cycle_answer o floor c r) (sym (turned_is c m) ∙ t)
+pub cycle_keeps_the_mode : (m : Mode) (c : Call) (floor : ℕ) (r told : Result ℕ Fault) → told ≡ cycle_answer (stop m c) floor c r → CycleKeepsTheMode m c floor r told
+cycle_keeps_the_mode m c floor r told e = record {
+  taken = λ t. e ∙ ap (λ (o : Option Refusal). cycle_answer o floor c r) (sym (turned_is c m) ∙ t);
+  turned = λ x t. e
+      ∙ ap (λ (o : Option Refusal). cycle_answer o floor c r) (sym (turned_is c m) ∙ t)
       ∙ ap₂ (λ (p f : ℕ). Err (record { refusal = x; place = p; floor = f })) (plain c).place (board_tells floor (deed c).takers m x (sym (turned_is c m) ∙ t));
 }

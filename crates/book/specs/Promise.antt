@@ -15,9 +15,9 @@ use Rattle.book.specs.declared.answer.Mode.{Mode}
 use Rattle.book.specs.declared.answer.Mode.TheVariants.{Free, Locked, Granted}
 use Rattle.book.specs.declared.answer.Answer.{Answer}
 use Rattle.book.specs.declared.answer.Answer.TheVariants.{Done, Word}
-use Rattle.book.specs.Tables.{stop, Rule, none, some, one_or_more, all}
+use Rattle.book.specs.Tables.{Rule, none, some, one_or_more, all}
 use Rattle.book.specs.Book.{Book, book_of, first, step, answer, Allowed, Admits}
-use Rattle.book.specs.Calling.{Called, cycle_answer}
+use Rattle.book.specs.Calling.{Called}
 use Rattle.book.specs.Runs.{Moment, moment, calls_of, answers_of, after, Follows, Entry, ledger, no_entries, joining_entries, mode_by, total, Quiet, locked_writes, NoneUnlocks, all_heard}
 
 -- WHERE A BYTE COMES FROM
@@ -175,11 +175,11 @@ pub record EachCallAsksThePort {P : Type 0} (G : Ghosts P) : Type 0 where
   pub answered : (m n : Mode) (p q : P) (c : Call) (r : Result Answer Fault) → Called G m p c r n q → turned_away c m ≡ None → AnswersAsThePort (G.state p) c r
   pub turned : (m n : Mode) (p q : P) (c : Call) (r : Result Answer Fault) (x : Refusal) → Called G m p c r n q → turned_away c m ≡ Some x → q ≡ p
 
--- A word that is read in a cycle of its own is told where the mode takes the call that opens the cycle; else that call's refusal is told.
-pub record CyclesKeepTheModes : Type 0 where
-  pub taken : (m : Mode) (c : Call) (floor : ℕ) (r : Result ℕ Fault) → turned_away c m ≡ None → cycle_answer (stop m c) floor c r ≡ r
-  pub turned : (m : Mode) (c : Call) (floor : ℕ) (r : Result ℕ Fault) (x : Refusal) → turned_away c m ≡ Some x
-      → cycle_answer (stop m c) floor c r ≡ Err (record { refusal = x; place = told_at c; floor = floor_above floor })
+-- What is read in a cycle of its own, word or refusal, is told where the mode takes the call that opens the cycle; else that call's refusal is
+-- told, on the board's floor.
+pub record CycleKeepsTheMode (m : Mode) (c : Call) (floor : ℕ) (r told : Result ℕ Fault) : Type 0 where
+  pub taken : turned_away c m ≡ None → told ≡ r
+  pub turned : (x : Refusal) → turned_away c m ≡ Some x → told ≡ Err (record { refusal = x; place = told_at c; floor = floor_above floor })
 
 -- UNDER A LOCK, read off the calls and their answers
 

@@ -29,8 +29,8 @@ use Rattle.card.specs.Stages.{pile_state, pile_floor, RunOnTheStages}
 abbrev pub card_size : ℕ → ℕ → Result ℕ Fault
 card_size lines bytes = result_and (size_of_lines lines) (result_and (size_of_lines (lines_of_bytes bytes)) (size_of_lines (lines + lines_of_bytes bytes)))
 
--- A card of RAM lines and EPROM bytes has the words of both, if there are whole lines of either, one at least, and together no more than a port
--- may have. Otherwise it is refused.
+-- A card of RAM lines and EPROM bytes has the words of both, if the bytes make whole lines, there is one line of each at least, and both together
+-- are no more than a port may have. Otherwise it is refused as unfit.
 pub record SizesAddUp : Type 0 where
   pub both : (lines more : ℕ) → 1 ≤ lines → 1 ≤ more → lines + more ≤ 1048576 → card_size lines (more * 16) ≡ Ok ((lines + more) * 8)
   pub no_ram : (bytes : ℕ) → card_size 0 bytes ≡ Err (record { refusal = UnfitSize; place = 0; floor = 0 })

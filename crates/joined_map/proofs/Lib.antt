@@ -1,3 +1,4 @@
 pub mod Joints
 mod Sides
 mod Order
+pub mod Idling

@@ -1,5 +1,5 @@
 -- What each side of a map gets in a run of calls.
-use Rattle.std.specs.Prelude.{◌≡◌, ℕ, ◌-◌, ◌≤◌, Bool, cond, not, List, [], ◌∷◌, ◌++◌, flat_map, Ok, Err, nat_lt}
+use Rattle.std.specs.Prelude.{◌≡◌, ℕ, ◌+◌, ◌-◌, ◌<◌, ◌≤◌, length, Bool, cond, not, List, [], ◌∷◌, ◌++◌, flat_map, Ok, Err, nat_lt}
 use Rattle.port.specs.declared.Port.{Ghosts}
 use Rattle.port.specs.Steps.{Step, reads, writes, advances, outsides, snoops, flushes, Chain, done, then, asked, word_read, advances_in, idle_advances, Gets}
 use Rattle.port.specs.Memory.{State}
@@ -52,3 +52,9 @@ abbrev pub EachSideGetsItsOwn : {L H : Type 0} → Ghosts L → Ghosts H → Typ
 EachSideGetsItsOwn {L} {H} l h = (b c : JoinedMap L H l h) (ds : List Step) (run : Chain MapDoes b ds c) →
     SideGets l.state l.does (along low_by run) (along low_words run) (advances_in ds) b.low c.low ×
     SideGets h.state h.does (along high_by run) (along high_words run) (advances_in ds) b.high c.high
+
+-- An advance of a port on which nothing waits counts as idle, and one while something waits does not.
+pub record IdleAdvancesCount {P : Type 0} (G : Ghosts P) : Type 0 where
+  pub none : (p : P) → idle_advances {does = G.does} G.state (done {p = p}) ≡ 0
+  pub idle : (p q r : P) (ds : List Step) (h : G.does p advances q) (x : Chain G.does q ds r) → (G.state p).waiting ≡ [] → idle_advances G.state (then h x) ≡ 1 + idle_advances G.state x
+  pub busy : (p q r : P) (ds : List Step) (h : G.does p advances q) (x : Chain G.does q ds r) → 0 < length (G.state p).waiting → idle_advances G.state (then h x) ≡ idle_advances G.state x

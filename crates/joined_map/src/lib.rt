@@ -47,14 +47,16 @@ fn shifted<T>(by: u32, res: Result<T, Fault>) -> Result<T, Fault>
 impl<L: Port, H: Port> JoinedMap<L, H> {
     ghost use Rattle.port.specs.Memory.{drained};
     ghost use Rattle.port.specs.Steps.{Drains};
-    ghost use Rattle.joined_map.specs.Runs.{EachSideGetsItsOwn};
+    ghost use Rattle.joined_map.specs.Runs.{EachSideGetsItsOwn, IdleAdvancesCount};
 
     /// A map of two ports, once none of their writes waits; it has no words where its size is unfit.
+    #[tactic(auto, using(crate::proofs::Idling::idle_advances_count))]
     pub fn new(low: L, high: H) -> JoinedMap<L, H>
         ensures low { L.state result.low ≡ drained (L.state low) }
         ensures high { H.state result.high ≡ drained (H.state high) }
         ensures did { Drains L.state L.does low result.low × Drains H.state H.does high result.high }
         ensures run { EachSideGetsItsOwn L.Port H.Port }
+        ensures idle { IdleAdvancesCount L.Port }
     {
         let mut low = low;
         let mut high = high;
