@@ -1,11 +1,12 @@
 -- What holds of a directory and of a fill, and of what is done to them.
-use Rattle.std.specs.Prelude.{◌≡◌, ℕ, zero, suc, ◌+◌, ◌*◌, ◌/◌, ◌%◌, ◌^◌, ◌<◌, ◌≤◌, true, false, cond, ◌≢◌, List, [], ◌∷◌, find, is_some, Some, None, Option, ◌==◌, nat_lt, count_ones}
+use Rattle.std.specs.Prelude.{◌≡◌, ℕ, zero, suc, ◌+◌, ◌*◌, ◌/◌, ◌%◌, ◌^◌, ◌<◌, ◌≤◌, true, false, cond, ◌≢◌, List, [], ◌∷◌, replicate, find, is_some, Some, None, Option, ◌==◌, nat_lt, count_ones}
 use Rattle.directory.specs.declared.lru.LruBits.{LruBits}
 use Rattle.directory.specs.declared.lru.WayNumber.{WayNumber}
+use Rattle.directory.specs.declared.lru.WayNumber.TheVariants.{Zero, One, Two, Three}
 use Rattle.directory.specs.declared.sets.Way.{Way}
 use Rattle.directory.specs.declared.fills.Fill.{Fill}
 use Rattle.directory.specs.Touch.{index_of, same_way, touched_bits, victim_of}
-use Rattle.directory.specs.Dirs.{Dir, set_of, tag_of, emptied, put, holds, found, twins, valid_ways}
+use Rattle.directory.specs.Dirs.{Dir, set_of, tag_of, emptied, put, holds, found, twins, installed, valid_ways}
 use Rattle.directory.specs.Ticks.{ticked, tick, offset_at, next_word, fetched_word}
 
 -- The way just touched is never the next victim.
@@ -65,6 +66,16 @@ pub record InstallKeepsOtherLines (before after : Dir) (line : ℕ) (k : WayNumb
   pub others : (other : ℕ) (j : WayNumber) → found before other ≡ Some j → (set_of other ≡ set_of line → j ≢ k) → found after other ≡ Some j
   pub displaced : (other : ℕ) → other ≢ line → set_of other ≡ set_of line → found before other ≡ Some k → found after other ≡ None
   pub no_more : (other : ℕ) → other ≢ line → found before other ≡ None → found after other ≡ None
+
+-- The ways that lines come into one after another, each the victim of its moment.
+abbrev pub ways_taken : Dir → List ℕ → List WayNumber
+ways_taken d [] = []
+ways_taken d (line ∷ lines) =
+    victim_of (d.lru (set_of line)) ∷ ways_taken (installed d line (victim_of (d.lru (set_of line))) false (replicate 8 0)) lines
+
+-- Five lines of set 196 come into an empty directory: one into each way, and the fifth into the way of the first.
+abbrev pub FiveLinesTakeTheWaysInTurn : Type 0
+FiveLinesTakeTheWaysInTurn = ways_taken emptied (196 ∷ 452 ∷ 708 ∷ 964 ∷ 1220 ∷ []) ≡ Zero ∷ Two ∷ One ∷ Three ∷ Zero ∷ []
 
 -- A line just dropped is not found, and every other line is found where it was; the LRU bits stay.
 pub record DropForgetsOneLine (before after : Dir) (line : ℕ) : Type 0 where

@@ -2,7 +2,7 @@
 ghost use Rattle.std.specs.Prelude.{◌≡◌, ℕ, ◌<◌, None};
 ghost use Rattle.directory.specs.Dirs.{emptied, found, installed, dropped, changed, touched, set_of, tag_of};
 ghost use Rattle.directory.specs.View.{view};
-ghost use Rattle.directory.specs.Laws.{TouchedWayIsSpared, OnlyBitsOfOneSet, InstallKeepsOtherLines, DropForgetsOneLine, ChangeMovesNoLine};
+ghost use Rattle.directory.specs.Laws.{TouchedWayIsSpared, OnlyBitsOfOneSet, InstallKeepsOtherLines, FiveLinesTakeTheWaysInTurn, DropForgetsOneLine, ChangeMovesNoLine};
 
 use super::{Directory, set_of, tag_of};
 use crate::lru::WayNumber;
@@ -11,7 +11,8 @@ use crate::sets::{EMPTY_SET, Way};
 impl Directory {
     /// A directory with no valid way, never touched.
     pub fn new() -> Directory
-        ensures { view result ≡ emptied }
+        ensures value { view result ≡ emptied }
+        ensures law { FiveLinesTakeTheWaysInTurn }
     {
         Directory {
             sets: [EMPTY_SET; 256],

@@ -1,4 +1,4 @@
-use Rattle.std.proofs.Common.{sym, subst}
+use Rattle.std.proofs.Common.{refl, sym, subst}
 use Rattle.directory.specs.Laws.{TagsAreApart}
 use Rattle.directory.proofs.Views.{view_empty}
 use Rattle.directory.proofs.Apart.{apart_emptied}
@@ -8,4 +8,4 @@ pub invariant_of-result : goal.invariant_of-result
 invariant_of-result c = record { apart = subst TagsAreApart (sym view_empty) apart_emptied }
 
 pub returns : goal.returns
-returns c = view_empty
+returns c = record { value = view_empty; law = refl }
