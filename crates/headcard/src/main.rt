@@ -3,6 +3,8 @@
 
 use card::{print_card, read_input, stock_image, stock_lines};
 use clap::Command;
+use std::alloc::AllocError;
+use std::env::{Env, FillError};
 use std::process::ExitCode;
 
 const ABOUT: &str =
@@ -12,21 +14,62 @@ const READS: &str =
     "The list is read from standard input: 32-bit list words, the low byte first, 16,384 bytes at most.
 docs/FORMATS.md says how a list is written and what is printed, docs/REFUSALS.md what each number means.";
 
-fn main(rt: HostRuntime) -> anyhow::Result<ExitCode> {
+/// The bytes of the longest argument that is read.
+const ARGUMENT_BYTES: usize = 4_096;
+
+// The arguments after the program's own name, which need not be text. In them, what is no text is read as U+FFFD.
+fn arguments(rt: &HostRuntime) -> Result<Vec<String>, AllocError> {
     let alloc = rt.alloc();
-    let words: Vec<String> = std::env::args(&rt)?.collect(alloc)?;
-    let command = Command::new(alloc, "headcard")
+    let mut words = Vec::new(alloc);
+    let mut bytes = [0; ARGUMENT_BYTES];
+    for number in 1..usize::MAX {
+        let word: &[u8] = match rt.arg(number, &mut bytes) {
+            Ok(length) => &bytes[..length],
+            Err(FillError::TooLong) => b"(over 4,096 bytes)",
+            Err(FillError::NotPresent) => break,
+        };
+        words.push(String::from_utf8_lossy(alloc, word)?)?;
+    }
+    Ok(words)
+}
+
+// Answers a request for help and an argument that is unknown, and tells the status; the program then ends.
+fn answer_arguments(rt: &HostRuntime) -> anyhow::Result<Option<ExitCode>> {
+    let words = arguments(rt)?;
+    if words.is_empty() {
+        return Ok(None);
+    }
+    let command = Command::new(rt.alloc(), "headcard")
         .about(ABOUT)
         .after_help(READS)
+        .no_binary_name(true)
         .bin_name("headcard")?;
-    if let Err(told) = command.try_get_matches_from(words.as_slice()) {
-        told.print(&rt)?;
-        return Ok(ExitCode::from(told.exit_code() as u8));
+    match command.try_get_matches_from(words.as_slice()) {
+        Ok(_) => Ok(None),
+        Err(told) => {
+            told.print(rt)?;
+            Ok(Some(ExitCode::from(told.exit_code() as u8)))
+        }
     }
+}
+
+// Runs the list on the card. Kept apart from `main`: behind so many more ways out the compiler takes the run for one that hardly happens, moves
+// the cache's tables, 30 KB, a dozen times, and keeps a place on the stack for each.
+#[inline(never)]
+fn run_list(rt: &HostRuntime) -> anyhow::Result<()> {
+    let alloc = rt.alloc();
     let list = read_input(alloc, rt.stdin())?;
     let mut lines = stock_lines(alloc)?;
     let image = stock_image(alloc)?;
     let (_, written) = print_card(alloc, rt.stdout(), &mut lines, &image, &list);
     written?;
+    Ok(())
+}
+
+fn main(rt: HostRuntime) -> anyhow::Result<ExitCode> {
+    if let Some(status) = answer_arguments(&rt)? {
+        return Ok(status);
+    }
+    run_list(&rt)?;
     Ok(ExitCode::SUCCESS)
 }
