@@ -14,10 +14,12 @@ const READS: &str =
     "The list is read from standard input: 32-bit list words, the low byte first, 16,384 bytes at most.
 docs/FORMATS.md says how a list is written and what is printed, docs/REFUSALS.md what each number means.";
 
-/// The bytes of the longest argument that is read.
+/// The bytes of the longest argument that is read, and what stands for a longer one. The program knows none that is nearly so long.
 const ARGUMENT_BYTES: usize = 4_096;
 
-// The arguments after the program's own name, which need not be text. In them, what is no text is read as U+FFFD.
+const LONGER: &[u8] = b"(over 4,096 bytes)";
+
+// The arguments, without the program's own name: the name need not be text. In an argument, what is no text is read as U+FFFD.
 fn arguments(rt: &HostRuntime) -> Result<Vec<String>, AllocError> {
     let alloc = rt.alloc();
     let mut words = Vec::new(alloc);
@@ -25,7 +27,7 @@ fn arguments(rt: &HostRuntime) -> Result<Vec<String>, AllocError> {
     for number in 1..usize::MAX {
         let word: &[u8] = match rt.arg(number, &mut bytes) {
             Ok(length) => &bytes[..length],
-            Err(FillError::TooLong) => b"(over 4,096 bytes)",
+            Err(FillError::TooLong) => LONGER,
             Err(FillError::NotPresent) => break,
         };
         words.push(String::from_utf8_lossy(alloc, word)?)?;
@@ -33,7 +35,7 @@ fn arguments(rt: &HostRuntime) -> Result<Vec<String>, AllocError> {
     Ok(words)
 }
 
-// Answers a request for help and an argument that is unknown, and tells the status; the program then ends.
+// Answers a request for help or an unknown argument, and tells the status with which the program ends; where there is neither, the list is run.
 fn answer_arguments(rt: &HostRuntime) -> anyhow::Result<Option<ExitCode>> {
     let words = arguments(rt)?;
     if words.is_empty() {
@@ -53,8 +55,8 @@ fn answer_arguments(rt: &HostRuntime) -> anyhow::Result<Option<ExitCode>> {
     }
 }
 
-// Runs the list on the card. Kept apart from `main`: behind so many more ways out the compiler takes the run for one that hardly happens, moves
-// the cache's tables, 30 KB, a dozen times, and keeps a place on the stack for each.
+// Runs the list on the card. Kept apart from `main`: behind the ways out of reading arguments the compiler would take the run for one that hardly
+// happens, move the cache's tables, 30 KB, a dozen times, and keep a place on the stack for each.
 #[inline(never)]
 fn run_list(rt: &HostRuntime) -> anyhow::Result<()> {
     let alloc = rt.alloc();
