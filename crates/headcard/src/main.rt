@@ -55,8 +55,8 @@ fn answer_arguments(rt: &HostRuntime) -> anyhow::Result<Option<ExitCode>> {
     }
 }
 
-// Runs the list on the card. Kept apart from `main`: behind the ways out of reading arguments the compiler would take the run for one that hardly
-// happens, move the cache's tables, 30 KB, a dozen times, and keep a place on the stack for each.
+// Runs the list on the card. Kept apart from `main`: after the reading of arguments there, the compiler moved the cache's tables, 30 KB, a dozen
+// times, and kept a place on the stack for each.
 #[inline(never)]
 fn run_list(rt: &HostRuntime) -> anyhow::Result<()> {
     let alloc = rt.alloc();
