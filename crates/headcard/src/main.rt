@@ -3,6 +3,7 @@
 
 use card::{print_card, read_input, stock_image, stock_lines};
 use clap::Command;
+use clap::error::ErrorKind;
 use std::alloc::AllocError;
 use std::env::{Env, FillError};
 use std::process::ExitCode;
@@ -36,6 +37,7 @@ fn arguments(rt: &HostRuntime) -> Result<Vec<String>, AllocError> {
 }
 
 // Answers a request for help or an unknown argument, and tells the status with which the program ends; where there is neither, the list is run.
+// The library's own status for want of memory is that of an unknown argument, so it is not taken.
 fn answer_arguments(rt: &HostRuntime) -> anyhow::Result<Option<ExitCode>> {
     let words = arguments(rt)?;
     if words.is_empty() {
@@ -46,13 +48,14 @@ fn answer_arguments(rt: &HostRuntime) -> anyhow::Result<Option<ExitCode>> {
         .after_help(READS)
         .no_binary_name(true)
         .bin_name("headcard")?;
-    match command.try_get_matches_from(words.as_slice()) {
-        Ok(_) => Ok(None),
-        Err(told) => {
-            told.print(rt)?;
-            Ok(Some(ExitCode::from(told.exit_code() as u8)))
-        }
+    let Err(told) = command.try_get_matches_from(words.as_slice()) else {
+        return Ok(None);
+    };
+    if told.kind() == ErrorKind::OutOfMemory {
+        return Err(AllocError.into());
     }
+    told.print(rt)?;
+    Ok(Some(ExitCode::from(told.exit_code() as u8)))
 }
 
 // Runs the list on the card. Kept apart from `main`: after the reading of arguments there, the compiler moved the cache's tables, 30 KB, a dozen
