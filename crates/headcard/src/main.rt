@@ -37,7 +37,7 @@ fn arguments(rt: &HostRuntime) -> Result<Vec<String>, AllocError> {
 }
 
 // Answers a request for help or an unknown argument, and tells the status with which the program ends; where there is neither, the list is run.
-// The library's own status for want of memory is that of an unknown argument, so it is not taken.
+// Where memory fails, the library's own status is 2, as for an unknown argument, so the kind of its error is asked first.
 fn answer_arguments(rt: &HostRuntime) -> anyhow::Result<Option<ExitCode>> {
     let words = arguments(rt)?;
     if words.is_empty() {
